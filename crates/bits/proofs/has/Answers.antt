@@ -1,0 +1,9 @@
+use mathlib.Core.Path.{sym, _∙_}
+use native.Mathlib.Omega.{arith}
+use Rattle.std.proofs.shelf.Tests.{le-ltb}
+use Rattle.bits.proofs.Bits.{on-past}
+use Rattle.bits.proofs.has.Needs as need
+
+-- past the word's end
+pub returns-else-b-lt64 : need.returns-else-b-lt64
+returns-else-b-lt64 c = le-ltb (c .args .b) 64 (omega arith) ∙ sym (on-past (c .args .word) 64 (c .args .b) (omega arith) (omega arith))

@@ -1,0 +1,12 @@
+pub mod Bools
+pub mod Pairs
+pub mod Laws
+pub mod Parts
+pub mod Folding
+pub mod Places
+pub mod Steps
+pub mod Props
+pub mod Facts
+pub mod Joining
+pub mod Arcs
+pub mod Plans

@@ -1,0 +1,72 @@
+-- Faults of the parts of a source, and which of them is told.
+use mathlib.Core.Path.{_≡_}
+use mathlib.Core.Bool.{Bool, true, false, not}
+use mathlib.Core.List.{List, [], _∷_}
+use mathlib.Core.Logic.{_⊎_}
+use Prim.Native.Nat.{ℕ, zero, suc, _<_}
+use lib.Dec.{eqb}
+use Rattle.std.specs.declared.result.Result.{Result}
+use Rattle.std.specs.declared.result.Result.the-variants.{Ok, Err}
+use Rattle.model.specs.Meaning.{Meaning}
+use Rattle.model.specs.Making.{bare}
+use Rattle.rules.specs.declared.fault.SourceFault.{SourceFault}
+use Rattle.rules.specs.declared.fault.SourceFault.the-variants.{Lines, Span, Values, Records, Names, Kind, Range, Words, Counts, Memory}
+
+-- the number of each fault
+abbrev pub number : SourceFault → ℕ
+number Lines = 1
+number (Span i) = 2
+number (Values i) = 3
+number Records = 4
+number (Names r) = 5
+number (Kind r) = 6
+number (Range r) = 7
+number (Words r) = 8
+number (Counts i) = 9
+number Memory = 24
+
+-- the first line or record concerned, and 0 where there is none
+abbrev pub concerned : SourceFault → ℕ
+concerned Lines = 0
+concerned (Span i) = i
+concerned (Values i) = i
+concerned Records = 0
+concerned (Names r) = r
+concerned (Kind r) = r
+concerned (Range r) = r
+concerned (Words r) = r
+concerned (Counts i) = i
+concerned Memory = 0
+
+-- whether there is an element at place p that has the flaw
+abbrev pub flawed-at : {X : Type 0} → (X → Bool) → List X → ℕ → Bool
+flawed-at flawed [] p = false
+flawed-at flawed (x ∷ xs) zero = flawed x
+flawed-at flawed (x ∷ xs) (suc p) = flawed-at flawed xs p
+
+-- the fault f is told before g: its number is smaller, or it is the same and its line or record is
+abbrev pub Before : SourceFault → SourceFault → Type 0
+Before f g = (number f < number g) ⊎ ((number f ≡ number g) × (concerned f < concerned g))
+
+-- of the faults that there are, r tells the first; it is `Ok` where there is none
+abbrev pub First-fault : (SourceFault → Bool) → Result (Unit {0}) SourceFault → Type 0
+First-fault there (Ok u) = (f : SourceFault) → there f ≡ false
+First-fault there (Err f) = (there f ≡ true) × ((g : SourceFault) → Before g f → there g ≡ false)
+
+-- a source that parts make means m, or is the bare source where there is a fault in them
+pub record Makes (there : SourceFault → Bool) (m made : Meaning) : Type 0 where
+  pub sound : ((f : SourceFault) → there f ≡ false) → made ≡ m
+  pub faulty : (f : SourceFault) → there f ≡ true → made ≡ bare
+
+-- the one fault that two sources can have: different option counts on a line
+abbrev pub joint-fault : Meaning → Meaning → SourceFault → Bool
+joint-fault m n Lines = false
+joint-fault m n (Span i) = false
+joint-fault m n (Values i) = false
+joint-fault m n Records = false
+joint-fault m n (Names r) = false
+joint-fault m n (Kind r) = false
+joint-fault m n (Range r) = false
+joint-fault m n (Words r) = false
+joint-fault m n (Counts i) = not (eqb (m .count i) (n .count i))
+joint-fault m n Memory = false
