@@ -1,0 +1,5 @@
+pub mod Strikes
+pub mod Baring
+pub mod Least
+pub mod Sweeping
+pub mod Ends
