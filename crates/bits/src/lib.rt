@@ -1,11 +1,61 @@
 // Bits of words, for words of 64 bits and, where there is one for each of 128 lines, of 128 bits.
-ghost use mathlib.Core.Bool.{cond, _&&_};
+ghost use mathlib.Core.Bool.{_&&_, cond};
 ghost use mathlib.Core.Path.{_≡_};
-ghost use Prim.Native.Nat.{ℕ, _<_};
+ghost use Prim.Native.Nat.{ℕ, _+_, _-_, _/_, _<_, _^_};
+ghost use lib.Bits.{bitAnd, bitXor};
+ghost use lib.Count.{trailingZeros};
 ghost use lib.Dec.{leb, ltb};
 ghost use Rattle.bits.specs.Bits.{cleared, marked, on};
 ghost use Rattle.bits.specs.Least.{Least};
-ghost use mathlib.Core.Bool.{true};
+
+// The word of bit b alone.
+fn bit_of(b: usize) -> u64
+    requires { ⌜ b < 64 ⌝ }
+    ensures { λ r. ⌜ r ≡ 2 ^ b ⌝ }
+{
+    1 << b
+}
+
+// The same for a wide word.
+fn bit_of_wide(b: usize) -> u128
+    requires { ⌜ b < 128 ⌝ }
+    ensures { λ r. ⌜ r ≡ 2 ^ b ⌝ }
+{
+    1 << b
+}
+
+// The word of the bits below n.
+fn bits_below(n: usize) -> u64
+    requires { ⌜ n < 64 ⌝ }
+    ensures { λ r. ⌜ r ≡ 2 ^ n - 1 ⌝ }
+{
+    bit_of(n) - 1
+}
+
+// The word less its bits below n.
+fn less_below(word: u64, n: usize) -> u64
+    requires { ⌜ n < 64 ⌝ }
+    ensures { λ r. ⌜ r ≡ bitXor word (bitAnd word (2 ^ n - 1)) ⌝ }
+{
+    word ^ (word & bits_below(n))
+}
+
+// Past the bits from `from` on that are not set.
+fn past_zeros(word: u64, from: usize) -> usize
+    requires { ⌜ from < 64 ⌝ }
+    ensures { λ r. ⌜ r ≡ from + trailingZeros 64 (word / 2 ^ from) ⌝ }
+{
+    from + (word >> from).trailing_zeros() as usize
+}
+
+// The same for a wide word.
+fn past_zeros_wide(word: u128, from: usize) -> usize
+    requires { ⌜ from < 128 ⌝ }
+    ensures { λ r. ⌜ r ≡ from + trailingZeros 128 (word / 2 ^ from) ⌝ }
+{
+    let zeros = (word >> from).trailing_zeros() as usize;
+    from + zeros
+}
 
 // Whether bit b of the word is set; there is none past its end.
 pub fn has(word: u64, b: usize) -> bool
@@ -28,7 +78,7 @@ pub fn next_one(word: u64, from: usize) -> Option<usize>
     if from >= 64 {
         return None;
     }
-    let b = from + (word >> from).trailing_zeros() as usize;
+    let b = past_zeros(word, from);
     if b < 64 { Some(b) } else { None }
 }
 
@@ -39,19 +89,18 @@ pub fn next_one_wide(word: u128, from: usize) -> Option<usize>
     if from >= 128 {
         return None;
     }
-    let b = from + (word >> from).trailing_zeros() as usize;
+    let b = past_zeros_wide(word, from);
     if b < 128 { Some(b) } else { None }
 }
 
-// The word without bit b: it is smaller if the bit was set.
+// The word without bit b.
 pub fn without(word: u64, b: usize) -> u64
-    ensures value { λ r. ⌜ r ≡ cleared word b ⌝ }
-    ensures falls { λ r. ⌜ (on word b ≡ true → r < word) ⌝ }
+    ensures { λ r. ⌜ r ≡ cleared word b ⌝ }
 {
     if b >= 64 {
         return word;
     }
-    word ^ (word & (1 << b))
+    word ^ (word & bit_of(b))
 }
 
 // The wide word with bit b; past its end there is no place for one.
@@ -61,7 +110,7 @@ pub fn with_wide(word: u128, b: usize) -> u128
     if b >= 128 {
         return word;
     }
-    word | (1 << b)
+    word | bit_of_wide(b)
 }
 
 // The word without its lowest n bits.
@@ -71,7 +120,7 @@ pub fn above(word: u64, n: usize) -> u64
     if n >= 64 {
         return 0;
     }
-    word ^ (word & ((1 << n) - 1))
+    less_below(word, n)
 }
 
 // A word whose lowest n bits alone are set, or all of them where it has fewer.
@@ -81,5 +130,5 @@ pub fn ones(n: usize) -> u64
     if n >= 64 {
         return u64::MAX;
     }
-    (1 << n) - 1
+    bits_below(n)
 }

@@ -10,7 +10,7 @@ use crate::sweep::sweep_line;
 use levels::level::Level;
 
 // One round.
-pub(crate) fn sweep_all<L: Level>(level: &L, set: &mut [u64]) -> Swept
+fn sweep_all<L: Level>(level: &L, set: &mut [u64]) -> Swept
     requires { ⌜ Each-line (meaning (now level)) (now set) ⌝ }
     ensures { λ r. ⌜ Round-swept (meaning (now (level .entry))) (passing (now (level .entry))) (now (set .entry)) (now (set .exit)) r ⌝ }
 {

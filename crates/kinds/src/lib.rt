@@ -1,3 +1,3 @@
 // The kinds of rules between two values.
 pub mod kind;
-pub mod rules;
+pub mod values;

@@ -52,15 +52,23 @@ flawed-at flawed (x ∷ xs) (suc p) = flawed-at flawed xs p
 abbrev pub Before : SourceFault → SourceFault → Type 0
 Before f g = (number f < number g) ⊎ ((number f ≡ number g) × (concerned f < concerned g))
 
+-- there is no fault
+abbrev pub Sound : (SourceFault → Bool) → Type 0
+Sound there = (f : SourceFault) → there f ≡ false
+
+-- there is some fault
+abbrev pub Faulty : (SourceFault → Bool) → Type 0
+Faulty there = (f : SourceFault) × (there f ≡ true)
+
 -- of the faults that there are, r tells the first; it is `Ok` where there is none
 abbrev pub First-fault : (SourceFault → Bool) → Result (Unit {0}) SourceFault → Type 0
-First-fault there (Ok u) = (f : SourceFault) → there f ≡ false
+First-fault there (Ok u) = Sound there
 First-fault there (Err f) = (there f ≡ true) × ((g : SourceFault) → Before g f → there g ≡ false)
 
 -- a source that parts make means m, or is the bare source where there is a fault in them
 pub record Makes (there : SourceFault → Bool) (m made : Meaning) : Type 0 where
-  pub sound : ((f : SourceFault) → there f ≡ false) → made ≡ m
-  pub faulty : (f : SourceFault) → there f ≡ true → made ≡ bare
+  pub sound : Sound there → made ≡ m
+  pub faulty : Faulty there → made ≡ bare
 
 -- the one fault that two sources can have: different option counts on a line
 abbrev pub joint-fault : Meaning → Meaning → SourceFault → Bool

@@ -2,8 +2,9 @@
 ghost use mathlib.Core.Path.{_≡_};
 ghost use Rattle.model.proofs.Joining.{joint-lawful};
 ghost use Rattle.model.specs.Joints.{both, joint};
-ghost use Rattle.rules.specs.Faults.{First-fault, Makes, joint-fault};
+ghost use Rattle.rules.specs.Faults.{Faulty, First-fault, Makes, Sound, joint-fault};
 ghost use Rattle.rules.specs.Nearer.{below, nearer};
+ghost use Rattle.std.specs.Orderings.{When};
 use crate::fault::SourceFault;
 use crate::source::RuleSource;
 
@@ -18,6 +19,16 @@ pub fn check_joint<A: RuleSource, B: RuleSource>(first: &A, second: &B) -> Resul
         }
     }
     Ok(())
+}
+
+// Whether the check passes.
+fn are_alike<A: RuleSource, B: RuleSource>(first: &A, second: &B) -> bool
+    ensures { λ r. ⌜ When r (Sound (joint-fault (A·RuleSource .meaning (now (first .entry))) (B·RuleSource .meaning (now (second .entry))))) (Faulty (joint-fault (A·RuleSource .meaning (now (first .entry))) (B·RuleSource .meaning (now (second .entry))))) ⌝ }
+{
+    match check_joint(first, second) {
+        Ok(()) => true,
+        Err(_) => false,
+    }
 }
 
 // The smaller of two numbers that may be missing.
@@ -54,7 +65,7 @@ impl<A: RuleSource, B: RuleSource> Joint<A, B> {
     pub fn new(first: A, second: B) -> Joint<A, B>
         ensures { λ r. ⌜ Makes (joint-fault (A·RuleSource .meaning first) (B·RuleSource .meaning second)) (both (A·RuleSource .meaning first) (B·RuleSource .meaning second)) (joint (r .alike) (A·RuleSource .meaning (r .first)) (B·RuleSource .meaning (r .second))) ⌝ }
     {
-        let alike = check_joint(&first, &second).is_ok();
+        let alike = are_alike(&first, &second);
         Joint {
             first,
             second,

@@ -5,16 +5,18 @@ ghost use Prim.Native.Nat.{ℕ, _*_, _<_, _≤_};
 ghost use lib.Dec.{eqb, ltb};
 ghost use lib.ListN.{getD, length};
 ghost use Rattle.bits.specs.Bits.{on};
-ghost use Rattle.model.specs.Making.{bare, counts-ok, no-rules, two-options, with-ban, with-join, with-part};
+ghost use Rattle.model.specs.Making.{bare, counts-ok, no-rules, two-options, with-ban, with-join, with-part, with-rule};
 ghost use Rattle.model.specs.Words.{Unruled, clear-at, mark-at};
 ghost use Rattle.std.specs.Of.Vec.{vec-items, vec-len};
 ghost use Rattle.std.specs.Vec.{made};
 ghost use Rattle.supports.specs.Adding.{fit, ruled, unruled};
 ghost use Rattle.supports.specs.Held.{supports-meaning};
+use crate::questions::SupportsSource;
 use crate::supports::Supports;
 use bits::ones;
 use bits::with_wide;
 use bits::without;
+use rules::source::RuleSource;
 use std::alloc::AllocError;
 use std::alloc::Global;
 
@@ -119,8 +121,8 @@ impl Supports {
         })
     }
 
-    // The bare source.
-    pub fn bare(heap: Global) -> Result<Supports, AllocError>
+    // One line of one option.
+    fn open_bare(heap: Global) -> Result<Supports, AllocError>
         ensures { λ r. ⌜ made r (λ s. supports-meaning s ≡ bare) ⌝ }
     {
         Supports::open(heap, &[1])
@@ -131,9 +133,16 @@ impl Supports {
         ensures { λ r. ⌜ made r (λ s. supports-meaning s ≡ unruled (now (counts .entry))) ⌝ }
     {
         if counts.is_empty() || counts.len() > 128 || !counts_fit(counts) {
-            return Supports::bare(heap);
+            return Supports::open_bare(heap);
         }
         Supports::open(heap, counts)
+    }
+
+    // The bare source: no lines at all break the limits.
+    pub fn bare(heap: Global) -> Result<Supports, AllocError>
+        ensures { λ r. ⌜ made r (λ s. supports-meaning s ≡ bare) ⌝ }
+    {
+        Supports::free(heap, &[])
     }
 
     // Joins two lines.
@@ -174,19 +183,28 @@ impl Supports {
         }
     }
 
-    // Adds a rule between the lines i and j, if they exist and differ.
-    pub fn add<R: PairRule>(&mut self, i: usize, j: usize, rule: &R)
-        ensures { λ _. ⌜ supports-meaning (now (self .exit)) ≡ ruled i j (permits (now (rule .entry))) (supports-meaning (now (self .entry))) ⌝ }
+    // Adds a rule between two lines that exist and differ.
+    fn add_between<R: PairRule>(&mut self, i: usize, j: usize, rule: &R)
+        requires first { ⌜ i < supports-meaning (now self) .lines ⌝ }
+        requires second { ⌜ j < supports-meaning (now self) .lines ⌝ }
+        requires differ { ⌜ (i ≡ j → ⊥) ⌝ }
+        ensures { λ _. ⌜ supports-meaning (now (self .exit)) ≡ with-rule i j (permits (now (rule .entry))) (supports-meaning (now (self .entry))) ⌝ }
     {
-        let lines = self.counts.len();
-        if i >= lines || j >= lines || i == j {
-            return;
-        }
         let rows = self.counts[i];
         let options = self.counts[j];
         self.join(i, j);
         for a in 0..rows {
             self.add_row(i, j, a, options, rule);
+        }
+    }
+
+    // Adds a rule between the lines i and j, if they exist and differ.
+    pub fn add<R: PairRule>(&mut self, i: usize, j: usize, rule: &R)
+        ensures { λ _. ⌜ supports-meaning (now (self .exit)) ≡ ruled i j (permits (now (rule .entry))) (supports-meaning (now (self .entry))) ⌝ }
+    {
+        let lines = self.lines();
+        if i < lines && j < lines && i != j {
+            self.add_between(i, j, rule);
         }
     }
 }

@@ -26,7 +26,7 @@ impl Supports {
     }
 
     // The options of line j that go with option a of line i, as a word.
-    pub fn support(&self, i: usize, a: usize, j: usize) -> u64
+    fn support(&self, i: usize, a: usize, j: usize) -> u64
         ensures { λ r. ⌜ ((b : ℕ) → on r b ≡ supports-meaning (now (self .entry)) .together i a j b) ⌝ }
     {
         let lines = self.counts.len();
@@ -37,7 +37,7 @@ impl Supports {
     }
 
     // The lines that are joined with line i, as a word.
-    pub fn joins(&self, i: usize) -> u128
+    fn joins(&self, i: usize) -> u128
         ensures { λ r. ⌜ ((j : ℕ) → on r j ≡ supports-meaning (now (self .entry)) .joined i j) ⌝ }
     {
         if i >= self.joins.len() {

@@ -3,9 +3,7 @@ use mathlib.Core.Bool.{_&&_, not, false}
 use mathlib.Core.Logic.{⊎-elim}
 use Prim.Native.Nat.{_-_, _^_}
 use native.Mathlib.Omega.{arith}
-use lib.Bits.{bitAnd, bitXor}
 use lib.Dec.{leb, ltb}
-use Rattle.std.proofs.shelf.Bits.{one-shl}
 use Rattle.std.proofs.shelf.Tests.{and-left, and-right, lt-leb, cases-lt}
 use Rattle.std.proofs.shelf.Ways.{tells}
 use Rattle.bits.specs.Bits.{on}
@@ -22,4 +20,4 @@ returns c b =
     let w = c .args .word in
     let n = c .args .n in
     let e : not (ltb b n) ≡ leb n b = grind (arith, tells) in
-    ap (λ x. on (bitXor w (bitAnd w (x - 1))) b) (one-shl n 64 (c .if-n-ge64 .left)) ∙ on-out w (2 ^ n - 1) b ∙ ap (λ t. on w b && not t) (on-ones n b) ∙ ap (λ t. on w b && t) e
+    ap (λ x. on x b) (c .less-below .ensures) ∙ on-out w (2 ^ n - 1) b ∙ ap (λ t. on w b && not t) (on-ones n b) ∙ ap (λ t. on w b && t) e

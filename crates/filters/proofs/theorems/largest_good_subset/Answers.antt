@@ -1,3 +1,5 @@
+use mathlib.Core.Path.{ap, _∙_}
+use Rattle.bits.specs.Bits.{on}
 use Rattle.filters.proofs.Ends.{largest-as, same-words}
 use Rattle.filters.proofs.theorems.largest_good_subset.Needs as need
 
@@ -7,5 +9,8 @@ returns g c =
     let m = g .L·Level .meaning x in
     let s = c .args .set .now in
     let u = c .copied-left .result in
-    largest-as m (g .L·Level .passing x) s u (c .by-rounds .last .set)
-    (same-words m (g .L·Level·met .lawful x .limits .few-lines) u s (c .copied-left .ensures)) (c .by-rounds .ensures .largest)
+    record {
+      largest = largest-as m (g .L·Level .passing x) s u (c .by-rounds .last .set)
+          (same-words m (g .L·Level·met .lawful x .limits .few-lines) u s (c .copied-left .ensures)) (c .by-rounds .ensures .largest);
+      rest = λ i a h missing. c .by-rounds .ensures .rest i a missing ∙ ap (λ w. on w a) (c .copied-left .ensures i h);
+    }

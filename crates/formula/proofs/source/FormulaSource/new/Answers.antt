@@ -24,6 +24,6 @@ returns-in-Ok-made c =
       | in-Ok w ↦ makes-sound there m made (w .in-Ok .ensures tt)
           (made-at-ok (λ s. supports-meaning s ≡ folded (adding-if (λ (x : RuleRecord). x .first) (λ (x : RuleRecord). x .second) (rule-allows ls vs)) (unruled (counts-of ls)) rs)
           (sym (w .made-is) ∙ c .in-Ok-made .is) (w .compile-made .ensures) ∙ all-rules ls vs rs (w .in-Ok .ensures tt))
-      | in-Err w ↦ makes-bare there m made _ (w .in-Err .ensures tt .0)
+      | in-Err w ↦ makes-bare there m made (_, w .in-Err .ensures tt .0)
           (made-at-ok (λ s. supports-meaning s ≡ bare) (sym (w .made-is) ∙ c .in-Ok-made .is) (w .bare-made .ensures))
     ]

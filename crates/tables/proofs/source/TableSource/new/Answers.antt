@@ -24,6 +24,6 @@ returns-in-Ok-made c =
       | in-Ok w ↦ makes-sound there m made (w .in-Ok .ensures tt)
           (made-at-ok (λ s. supports-meaning s ≡ folded (adding-if (λ (x : TableRecord). x .first) (λ (x : TableRecord). x .second) (record-allows ws)) (unruled cs) rs)
           (sym (w .made-is) ∙ c .in-Ok-made .is) (w .compile-made .ensures) ∙ all-records cs rs ws (w .in-Ok .ensures tt))
-      | in-Err w ↦ makes-bare there m made _ (w .in-Err .ensures tt .0)
+      | in-Err w ↦ makes-bare there m made (_, w .in-Err .ensures tt .0)
           (made-at-ok (λ s. supports-meaning s ≡ bare) (sym (w .made-is) ∙ c .in-Ok-made .is) (w .bare-made .ensures))
     ]

@@ -3,7 +3,7 @@ use mathlib.Core.Bool.{_&&_}
 use lib.Dec.{ltb}
 use Rattle.model.specs.Making.{with-part}
 use Rattle.supports.specs.Held.{supports-meaning}
-use Rattle.supports.proofs.supports.Supports.add.Given as given
+use Rattle.supports.proofs.supports.Supports.add_between.Given as given
 
 -- the rule is added on the rows before a
 abbrev pub Inv-loop-a : given.InvT-loop-a

@@ -1,35 +1,28 @@
 use mathlib.Core.Path.{_≡_, sym, ap, _∙_}
-use mathlib.Core.Bool.{true, false, _&&_, not}
-use Prim.Native.Nat.{_<_}
+use Prim.Native.Nat.{ℕ, _<_}
 use native.Mathlib.Omega.{arith}
-use lib.Dec.{eqb, ltb}
-use lib.ListN.{length, getD}
-use Rattle.std.proofs.shelf.Lists.{getD-read-under}
-use Rattle.std.proofs.shelf.Tests.{cond-false, cond-true}
-use Rattle.std.proofs.shelf.Ways.{tells}
-use Rattle.std.specs.Of.Vec.{vec-items, vec-len}
+use lib.ListN.{getD}
+use Rattle.std.proofs.shelf.Lists.{getD-read}
+use Rattle.std.specs.Of.Vec.{vec-items}
 use Rattle.model.specs.Making.{with-part}
 use Rattle.model.specs.Words.{words-meaning}
 use Rattle.model.proofs.Parts.{rows, part-frame, join-facts, rows-start, rows-step, rows-all}
+use Rattle.supports.specs.declared.supports.Supports.{Supports}
 use Rattle.supports.specs.Held.{held, supports-meaning}
-use Rattle.supports.proofs.supports.Supports.add.Needs as need
+use Rattle.supports.proofs.supports.Supports.add_between.Needs as need
 
-pub returns-then-i-lines : need.returns-then-i-lines
+-- the counts that were read are those of the lines
+read : (s : Supports) (k x : ℕ) → k < supports-meaning s .lines → x ≡ getD (vec-items (s .counts)) k x → x ≡ getD (vec-items (s .counts)) k 0
 unfolding words-meaning
-returns-then-i-lines g c =
-    let s = c .args .self .now in
-    let n = length (vec-items (s .counts)) in
-    let i = c .args .i in
-    let j = c .args .j in
-    let same : c .len-lines .result ≡ n = c .len-lines .ensures ∙ s .counts .ok .0 in
-    let off : (ltb i n && (ltb j n && not (eqb i j))) ≡ false = grind (arith, tells, c .then-i-lines .either) in
-    sym (cond-false (ltb i n && (ltb j n && not (eqb i j))) _ _ off)
+read s k x h e = getD-read (vec-items (s .counts)) k x h e 0
 
-pub join-requires : need.join-requires
+pub index-rows-requires : need.index-rows-requires
 unfolding words-meaning
-join-requires g c κs =
-    let s = c .args .self .now in
-    record { first = omega (arith, s .counts .ok .0); second = omega (arith, s .counts .ok .0); differ = c .if-i-j .left }
+index-rows-requires g c κs = omega (arith, c .pre .first, c .args .self .now .counts .ok .0)
+
+pub index-options-requires : need.index-options-requires
+unfolding words-meaning
+index-options-requires g c κs = omega (arith, c .pre .second, c .args .self .now .counts .ok .0)
 
 pub loop-a-holds : need.loop-a-holds
 loop-a-holds g c = rows-start (c .args .i) (c .args .j) (g .R·PairRule .permits (c .args .rule .now)) (supports-meaning (c .join .last .self)) _
@@ -43,8 +36,8 @@ add-row-requires g c κs =
     let start = supports-meaning (c .join .last .self) in
     let f = part-frame i j (g .R·PairRule .permits (c .args .rule .now)) (rows (c .loop-a .a) _) (supports-meaning (c .loop-a .self)) start (c .loop-a .inv) in
     let k = join-facts i j start (supports-meaning s) (c .join .ensures) in
-    let rows-are = getD-read-under (vec-items (s .counts)) i (vec-len (s .counts)) (c .index-rows .result .now) 0 (c .index-rows .ensures) (omega arith) (s .counts .ok .0) in
-    let options-are = getD-read-under (vec-items (s .counts)) j (vec-len (s .counts)) (c .index-options .result .now) 0 (c .index-options .ensures) (omega arith) (s .counts .ok .0) in
+    let rows-are = read s i (c .index-rows .result .now) (c .pre .first) (c .index-rows .ensures) in
+    let options-are = read s j (c .index-options .result .now) (c .pre .second) (c .index-options .ensures) in
     record {
       joined = f .joined i j ∙ k .2;
       option = omega (arith, f .count i, k .1 i, rows-are);
@@ -61,16 +54,12 @@ unfolding words-meaning
 returns g c =
     let s = c .args .self .now in
     let m = supports-meaning s in
-    let n = length (vec-items (s .counts)) in
     let i = c .args .i in
     let j = c .args .j in
     let f = g .R·PairRule .permits (c .args .rule .now) in
     let start = supports-meaning (c .join .last .self) in
-    let rows-are = getD-read-under (vec-items (s .counts)) i (vec-len (s .counts)) (c .index-rows .result .now) 0 (c .index-rows .ensures) (omega arith) (s .counts .ok .0) in
-    let options-are = getD-read-under (vec-items (s .counts)) j (vec-len (s .counts)) (c .index-options .result .now) 0 (c .index-options .ensures) (omega arith) (s .counts .ok .0) in
+    let rows-are = read s i (c .index-rows .result .now) (c .pre .first) (c .index-rows .ensures) in
+    let options-are = read s j (c .index-options .result .now) (c .pre .second) (c .index-options .ensures) in
     let all : c .loop-a .a ≡ getD (vec-items (s .counts)) i 0 = omega (arith, rows-are) in
-    let same : c .len-lines .result ≡ n = c .len-lines .ensures ∙ s .counts .ok .0 in
-    let on : (ltb i n && (ltb j n && not (eqb i j))) ≡ true = grind (arith, tells) in
     rows-all i j f m start (supports-meaning (c .loop-a .self)) (held s .lawful) (c .join .ensures)
     (c .loop-a .inv ∙ ap (λ x. with-part i j f (rows x (c .index-options .result .now)) start) all ∙ ap (λ x. with-part i j f (rows (getD (vec-items (s .counts)) i 0) x) start) options-are)
-    ∙ sym (cond-true (ltb i n && (ltb j n && not (eqb i j))) _ _ on)
