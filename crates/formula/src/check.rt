@@ -8,9 +8,9 @@ use crate::records::RuleRecord;
 use kinds::kind::Kind;
 use rules::fault::SourceFault;
 use rules::flaw::Flaw;
-use rules::flaw::ends_inside;
 use rules::flaw::first_with;
-use rules::flaw::names_two;
+use rules::parts::ends_inside;
+use rules::parts::names_two;
 
 // Whether the values rise and lie from -1,000,000 to 1,000,000.
 fn rises(values: &[i32]) -> bool

@@ -18,6 +18,8 @@ use crate::records::LineRecord;
 use crate::records::RuleRecord;
 use kinds::kind::Kind;
 use rules::fault::SourceFault;
+use rules::parts::item_from;
+use rules::parts::item_or;
 use rules::source::RuleSource;
 use std::alloc::AllocError;
 use std::alloc::Global;
@@ -25,26 +27,11 @@ use supports::making::PairRule;
 use supports::questions::SupportsSource;
 use supports::supports::Supports;
 
-// The value at a place counted from start; past the run it is 0.
-fn value_at(values: &[i32], start: usize, at: usize) -> i32
-    ensures { λ r. ⌜ r ≡ getD (now (values .entry)) (start + at) (pos 0) ⌝ }
-{
-    if start < values.len() && at < values.len() - start {
-        values[start + at]
-    } else {
-        0
-    }
-}
-
 // Where the values of a line start; 0 for a missing line.
 fn start_of(lines: &[LineRecord], line: usize) -> usize
     ensures { λ r. ⌜ r ≡ getD (now (lines .entry)) line no-line .start ⌝ }
 {
-    if line < lines.len() {
-        lines[line].start
-    } else {
-        0
-    }
+    item_or(lines, line, LineRecord { start: 0, count: 0 }).start
 }
 
 // A rule with the values of the two lines that it names.
@@ -62,8 +49,8 @@ impl<'a> PairRule for RulePair<'a> as RulePairRule {
     ghost permits = { λ p a b. allowed-if (p .kind) (p .k) (p .m) (getD (p .values .now) (p .from + a) (pos 0)) (getD (p .values .now) (p .to + b) (pos 0)) };
 
     fn allows(&self, a: usize, b: usize) -> bool {
-        let x = value_at(self.values, self.from, a);
-        let y = value_at(self.values, self.to, b);
+        let x = item_from(self.values, self.from, a, 0);
+        let y = item_from(self.values, self.to, b, 0);
         match self.kind {
             Some(kind) => kind.allows(self.k, self.m, x, y),
             None => false,

@@ -1,10 +1,8 @@
 // Faults by number, and the search for the first element with a flaw.
 ghost use mathlib.Core.Bool.{Bool};
 ghost use mathlib.Core.Path.{_≡_};
-ghost use Prim.Native.Nat.{_+_};
-ghost use lib.Dec.{leb};
 ghost use Rattle.bits.specs.Least.{Least};
-ghost use Rattle.rules.specs.Faults.{concerned, flawed-at, number, two-of};
+ghost use Rattle.rules.specs.Faults.{concerned, flawed-at, number};
 use crate::fault::SourceFault;
 
 impl SourceFault {
@@ -39,21 +37,6 @@ impl SourceFault {
             | SourceFault::Words(record) => record,
         }
     }
-}
-
-// Whether a part of so many elements from start on ends within len; a start near the top of its type
-// does not wrap.
-pub fn ends_inside(start: usize, count: usize, len: usize) -> bool
-    ensures { λ r. ⌜ r ≡ leb (start + count) len ⌝ }
-{
-    start <= len && count <= len - start
-}
-
-// Whether the two numbers name different lines that exist.
-pub fn names_two(lines: usize, first: usize, second: usize) -> bool
-    ensures { λ r. ⌜ r ≡ two-of lines first second ⌝ }
-{
-    (first < lines) & ((second < lines) & (first != second))
 }
 
 // What can be wrong with one element of a list.

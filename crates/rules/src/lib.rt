@@ -3,4 +3,5 @@ pub mod fault;
 pub mod flaw;
 pub mod joint;
 pub mod lent;
+pub mod parts;
 pub mod source;

@@ -11,6 +11,7 @@ use bits::has;
 use bits::has_wide;
 use bits::next_one;
 use bits::next_one_wide;
+use rules::parts::item_or;
 use rules::source::RuleSource;
 
 impl Supports {
@@ -40,10 +41,7 @@ impl Supports {
     fn joins(&self, i: usize) -> u128
         ensures { λ r. ⌜ ((j : ℕ) → on r j ≡ supports-meaning (now (self .entry)) .joined i j) ⌝ }
     {
-        if i >= self.joins.len() {
-            return 0;
-        }
-        self.joins[i]
+        item_or(&self.joins, i, 0)
     }
 }
 
@@ -57,11 +55,7 @@ pub impl RuleSource for Supports as SupportsSource {
     }
 
     fn count(&self, line: usize) -> usize {
-        if line < self.counts.len() {
-            self.counts[line]
-        } else {
-            0
-        }
+        item_or(&self.counts, line, 0)
     }
 
     fn joined(&self, i: usize, j: usize) -> bool {

@@ -1,21 +1,13 @@
 // The check of a table source's parts.
-ghost use mathlib.Core.Path.{_≡_};
-ghost use lib.ListN.{getD};
 ghost use Rattle.rules.specs.Faults.{First-fault};
 ghost use Rattle.tables.specs.Faults.{bad-count, bad-names, bad-words, table-fault};
 use crate::records::TableRecord;
 use rules::fault::SourceFault;
 use rules::flaw::Flaw;
-use rules::flaw::ends_inside;
 use rules::flaw::first_with;
-use rules::flaw::names_two;
-
-// The option count of a line; 0 for a missing one.
-fn count_at(counts: &[usize], line: usize) -> usize
-    ensures { λ r. ⌜ r ≡ getD (now (counts .entry)) line 0 ⌝ }
-{
-    if line < counts.len() { counts[line] } else { 0 }
-}
+use rules::parts::ends_inside;
+use rules::parts::item_or;
+use rules::parts::names_two;
 
 // A line with 0 or over 64 options.
 #[derive(Drop)]
@@ -54,7 +46,7 @@ impl<'a> Flaw<TableRecord> for BadWords<'a> as WordsFlaw {
     ghost flawed = { λ w r. bad-words (w .counts .now) (w .len) r };
 
     fn has(&self, r: &TableRecord) -> bool {
-        !ends_inside(r.start, count_at(self.counts, r.first), self.len)
+        !ends_inside(r.start, item_or(self.counts, r.first, 0), self.len)
     }
 }
 

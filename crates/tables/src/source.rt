@@ -16,23 +16,13 @@ use crate::check::check_table;
 use crate::records::TableRecord;
 use bits::has;
 use rules::fault::SourceFault;
+use rules::parts::item_from;
 use rules::source::RuleSource;
 use std::alloc::AllocError;
 use std::alloc::Global;
 use supports::making::PairRule;
 use supports::questions::SupportsSource;
 use supports::supports::Supports;
-
-// The word at a place counted from start; past the table it is 0.
-fn word_at(words: &[u64], start: usize, at: usize) -> u64
-    ensures { λ r. ⌜ r ≡ getD (now (words .entry)) (start + at) 0 ⌝ }
-{
-    if start < words.len() && at < words.len() - start {
-        words[start + at]
-    } else {
-        0
-    }
-}
 
 // A record with the table that it reads.
 #[derive(Drop)]
@@ -45,7 +35,7 @@ impl<'a> PairRule for RecordPair<'a> as RecordPairRule {
     ghost permits = { λ p a b. on (getD (p .words .now) (p .start + a) 0) b };
 
     fn allows(&self, a: usize, b: usize) -> bool {
-        has(word_at(self.words, self.start, a), b)
+        has(item_from(self.words, self.start, a, 0), b)
     }
 }
 
