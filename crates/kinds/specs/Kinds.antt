@@ -2,9 +2,8 @@
 use mathlib.Core.Bool.{Bool, true, false, cond, _&&_, _||_}
 use Prim.Native.Nat.{ℕ}
 use lib.Dec.{eqb}
-use lib.IntN.{ℤ, pos, negsuc, _+ℤ_, _-ℤ_, natAbs}
+use lib.IntN.{ℤ, pos, negsuc, _+ℤ_, _-ℤ_, _*ℤ_, natAbs}
 use lib.Signed.{leZ, ltZ}
-use Rattle.std.specs.Numbers.{divEuclid}
 use Rattle.std.specs.declared.option.Option.{Option}
 use Rattle.std.specs.declared.option.Option.the-variants.{Some, None}
 use Rattle.kinds.specs.declared.kind.Kind.{Kind}
@@ -34,10 +33,10 @@ exact k x y = same (pos (natAbs (x -ℤ y))) k
 abbrev pub after : ℤ → ℤ → ℤ → Bool
 after k x y = leZ (x +ℤ k) y
 
--- (x - y) ÷ m, rounded down towards minus infinity, is k; for m from 1 on the Euclidean quotient,
--- whose rest is never negative, is the one rounded down
+-- (x - y) ÷ m, rounded down towards minus infinity, is k: x - y lies from k steps of m on, and below one
+-- step more
 abbrev pub step : ℤ → ℤ → ℤ → ℤ → Bool
-step k m x y = leZ (pos 1) m && same (divEuclid (x -ℤ y) m) k
+step k m x y = leZ (pos 1) m && (leZ (k *ℤ m) (x -ℤ y) && ltZ (x -ℤ y) ((k *ℤ m) +ℤ m))
 
 -- a rule of the kind allows x on its first line with y on its second
 abbrev pub allowed-by : Kind → ℤ → ℤ → ℤ → ℤ → Bool

@@ -112,11 +112,19 @@ fn is_after(k: i32, x: i32, y: i32) -> bool
     sum(x, k) <= widen(y)
 }
 
+// Whether the difference divided by m and rounded down is k.
+fn quotient_is(k: i32, m: i32, x: i32, y: i32) -> bool
+    requires { ⌜ pos 1 ≤ℤ m ⌝ }
+    ensures { λ r. ⌜ r ≡ same (divEuclid (x -ℤ y) m) k ⌝ }
+{
+    equal(quotient(m, x, y), widen(k))
+}
+
 fn is_step(k: i32, m: i32, x: i32, y: i32) -> bool
     ensures { λ r. ⌜ r ≡ step k m x y ⌝ }
 {
     if m < 1 {
         return false;
     }
-    equal(quotient(m, x, y), widen(k))
+    quotient_is(k, m, x, y)
 }
