@@ -1,17 +1,17 @@
 -- Laws of bits, over words of any width.
 use mathlib.Core.Path.{_≡_, refl, sym, ap, _∙_}
 use mathlib.Core.Bool.{Bool, true, false, _&&_, _||_, not}
-use mathlib.Core.Logic.{_⊎_, inl, inr, ⊎-elim}
+use mathlib.Core.Logic.{_⊎_, ⊎-elim}
 use Prim.Native.Nat.{ℕ, zero, suc, _+_, _-_, _*_, _/_, _%_, _^_, _<_, _≤_}
 use native.Mathlib.Nat.{one-mul, add-mul, div-eq-of-lt, div-one}
 use native.Mathlib.Numerals.{one-add}
 use native.Mathlib.Omega.{arith}
-use lib.Bits.{bitAnd, bitOr, bitXor, and-shr, or-shr, xor-shr, and-mod, or-mod, xor-mod, and-zero-r, or-zero-r, xor-zero-r, xor-add-and, and-mask, and-block}
+use lib.Bits.{bitAnd, bitOr, bitXor, and-shr, or-shr, xor-shr, and-mod, or-mod, xor-mod, and-zero-r, xor-zero-r, xor-add-and, and-mask, and-block}
 use lib.Count.{trailingZeros, under}
-use lib.Dec.{eqb, leb, ltb}
+use lib.Dec.{eqb, ltb}
 use lib.Pow.{pow-pos, pow-add, pow-lt, pow-mono, shl-shr, split}
 use Rattle.std.proofs.shelf.Bits.{mod-below, shr-shr, shr-high}
-use Rattle.std.proofs.shelf.Tests.{cases-order, cases-eq, cases-lt, eq-eqb, ne-eqb, eqb-true, lt-ltb, le-ltb, le-leb, lt-leb, both-ways, cases-bool}
+use Rattle.std.proofs.shelf.Tests.{cases-order, cases-eq, cases-lt, eq-eqb, ne-eqb, eqb-true, lt-ltb, le-ltb}
 use Rattle.std.specs.declared.option.Option.the-variants.{Some, None}
 use Rattle.bits.specs.Bits.{bit, on, cleared, marked}
 use Rattle.bits.specs.Least.{Least}

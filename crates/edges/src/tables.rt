@@ -1,8 +1,8 @@
 // Parts of a table source and of a joint source at the edges of each number.
+use joint::check::check_joint;
 use rules::fault::SourceFault;
 use rules::fault::SourceFaultDebug;
 use rules::fault::SourceFaultPartialEq;
-use rules::joint::check_joint;
 use std::test::*;
 use tables::check::check_table;
 use tables::records::TableRecord;

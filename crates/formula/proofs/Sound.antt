@@ -1,8 +1,8 @@
 -- What the words of parts without faults mean.
-use mathlib.Core.Path.{_≡_, refl, sym, ap, _∙_}
-use mathlib.Core.Bool.{Bool, true, false, _&&_, not}
-use mathlib.Core.List.{List, [], _∷_, map}
-use Prim.Native.Nat.{ℕ, zero, suc, _+_}
+use mathlib.Core.Path.{_≡_, refl, ap, _∙_}
+use mathlib.Core.Bool.{true, false, _&&_, not}
+use mathlib.Core.List.{List, [], _∷_}
+use Prim.Native.Nat.{ℕ, suc, _+_}
 use lib.Dec.{ltb, leb}
 use lib.IntN.{ℤ, pos}
 use lib.ListN.{length, length-map}
@@ -16,7 +16,7 @@ use Rattle.supports.specs.Adding.{fit, adding-if, unruled}
 use Rattle.supports.proofs.Folding.{all-added-if}
 use Rattle.formula.specs.declared.records.LineRecord.{LineRecord}
 use Rattle.formula.specs.declared.records.RuleRecord.{RuleRecord}
-use Rattle.formula.specs.Faults.{bad-span, bad-names, formula-fault}
+use Rattle.formula.specs.Faults.{bad-span, formula-fault}
 use Rattle.formula.specs.Formulas.{counts-of, rule-allows, formula-meaning}
 
 abbrev pub no-rule : RuleRecord

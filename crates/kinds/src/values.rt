@@ -3,7 +3,7 @@
 ghost use mathlib.Core.Path.{_≡_};
 ghost use lib.IntN.{_+ℤ_, _-ℤ_, natAbs, pos};
 ghost use lib.Signed.{_≤ℤ_};
-ghost use Rattle.kinds.specs.Kinds.{after, allowed-by, apart, exact, in-range, kind-of, low-to-high, same, step, wide};
+ghost use Rattle.kinds.specs.Kinds.{after, allowed-by, apart, exact, in-range, kind-of, same, step, wide};
 ghost use Rattle.std.specs.Numbers.{divEuclid};
 use crate::kind::Kind;
 

@@ -1,16 +1,16 @@
 -- What a write to the words does to the meaning.
-use mathlib.Core.Path.{_≡_, refl, sym, ap, subst, _∙_}
+use mathlib.Core.Path.{_≡_, refl, sym, ap, _∙_}
 use mathlib.Core.Bool.{Bool, true, false, _&&_, _||_, not}
 use mathlib.Core.List.{List}
 use mathlib.Core.Logic.{⊎-elim}
-use Prim.Native.Nat.{ℕ, _+_, _*_, _/_, _%_, _<_, _≤_}
+use Prim.Native.Nat.{ℕ, _+_, _*_, _/_, _%_, _<_}
 use native.Mathlib.Nat.{mul-comm}
 use native.Mathlib.Omega.{arith}
-use lib.Dec.{ltb, eqb}
+use lib.Dec.{eqb}
 use lib.ListN.{length, getD, length-set, replicate}
 use Rattle.std.proofs.shelf.Bits.{div-mul-add, mod-mul-add, mul-add-lt}
 use Rattle.std.proofs.shelf.Lists.{getD-set-same, getD-set-other, getD-replicate, getD-past, length-replicate}
-use Rattle.std.proofs.shelf.Tests.{and-parts, and-from, and-left, or-cases, both-ways, eqb-true, eq-eqb, ne-eqb, cases-eq, cases-lt, cases-bool}
+use Rattle.std.proofs.shelf.Tests.{and-parts, and-from, or-cases, both-ways, eqb-true, eq-eqb, ne-eqb, cases-eq, cases-lt, cases-bool}
 use Rattle.bits.specs.Bits.{on, cleared, marked}
 use Rattle.bits.proofs.Bits.{on-cleared, on-marked, on-zero}
 use Rattle.model.specs.Making.{two-lines, two-options, no-rules, with-join, with-ban, same-lines, same-options}

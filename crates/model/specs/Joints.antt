@@ -1,6 +1,5 @@
 -- What two sources mean as one.
 use mathlib.Core.Bool.{Bool, cond, _&&_, _||_, not}
-use Prim.Native.Nat.{ℕ}
 use lib.Dec.{ltb}
 use Rattle.model.specs.Meaning.{Meaning}
 use Rattle.model.specs.Making.{bare}

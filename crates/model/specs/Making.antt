@@ -1,6 +1,5 @@
 -- What option counts and records mean, where each record joins two lines and allows some pairs of
 -- their options; and the steps in which such a meaning is made.
-use mathlib.Core.Path.{_≡_}
 use mathlib.Core.Bool.{Bool, true, false, cond, _&&_, _||_, not}
 use mathlib.Core.List.{List, [], _∷_}
 use Prim.Native.Nat.{ℕ}

@@ -1,17 +1,17 @@
 -- The first fault, found number by number.
-use mathlib.Core.Path.{_≡_, refl, sym, ap, subst, _∙_}
+use mathlib.Core.Path.{_≡_, refl, ap, _∙_}
 use mathlib.Core.Bool.{Bool, true, false, cond}
 use mathlib.Core.Logic.{_⊎_, inl, inr, ⊎-elim}
-use Prim.Native.Nat.{ℕ, _+_, _<_, _≤_}
+use Prim.Native.Nat.{ℕ, _+_, _<_}
 use native.Mathlib.Omega.{arith}
 use lib.Dec.{eqb}
 use Rattle.std.proofs.shelf.Tests.{cases-lt}
-use Rattle.std.specs.declared.option.Option.the-variants.{Some, None}
+use Rattle.std.specs.declared.option.Option.the-variants.{Some}
 use Rattle.std.specs.declared.result.Result.the-variants.{Ok, Err}
 use Rattle.bits.specs.Least.{Least}
 use Rattle.rules.specs.declared.fault.SourceFault.{SourceFault}
 use Rattle.rules.specs.declared.fault.SourceFault.the-variants.{Lines, Span, Values, Records, Names, Kind, Range, Words, Counts, Memory}
-use Rattle.rules.specs.Faults.{number, concerned, Before, First-fault}
+use Rattle.rules.specs.Faults.{number, concerned, First-fault}
 
 -- the fault of a number at a line or record
 abbrev pub fault-of : ℕ → ℕ → SourceFault

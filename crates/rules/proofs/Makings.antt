@@ -1,16 +1,11 @@
 -- What a checked source means.
-use mathlib.Core.Path.{_≡_, refl}
-use mathlib.Core.Bool.{Bool, true, false}
-use lib.Dec.{eqb}
-use Rattle.std.proofs.shelf.Tests.{both-ways, eqb-true, not-false}
-use Rattle.std.specs.Orderings.{When}
-use Rattle.model.specs.Meaning.{Meaning, Lawful}
+use mathlib.Core.Path.{_≡_}
+use mathlib.Core.Bool.{Bool}
+use Rattle.std.proofs.shelf.Tests.{both-ways}
+use Rattle.model.specs.Meaning.{Meaning}
 use Rattle.model.specs.Making.{bare}
-use Rattle.model.specs.Joints.{both, joint}
-use Rattle.model.proofs.Joining.{clipped-both}
 use Rattle.rules.specs.declared.fault.SourceFault.{SourceFault}
-use Rattle.rules.specs.declared.fault.SourceFault.the-variants.{Counts}
-use Rattle.rules.specs.Faults.{Sound, Faulty, Makes, joint-fault}
+use Rattle.rules.specs.Faults.{Sound, Faulty, Makes}
 
 module _ (there : SourceFault → Bool) (m made : Meaning) where
   -- there is no fault, and the source means m
@@ -20,10 +15,3 @@ module _ (there : SourceFault → Bool) (m made : Meaning) where
   -- there is a fault, and the source is bare
   pub makes-bare : Faulty there → made ≡ bare → Makes there m made
   makes-bare w e = record { sound = λ none. absurd (both-ways (there (w .0)) (none (w .0)) (w .1)); faulty = λ _. e }
-
-pub joint-makes : (m n : Meaning) → Lawful m → Lawful n → (alike : Bool) → When alike (Sound (joint-fault m n)) (Faulty (joint-fault m n))
-    → Makes (joint-fault m n) (both m n) (joint alike m n)
-joint-makes m n p q true none =
-    makes-sound (joint-fault m n) (both m n) (joint true m n) none
-    (clipped-both m n p q (λ i. eqb-true (m .count i) (n .count i) (not-false (eqb (m .count i) (n .count i)) (none (Counts i)))))
-joint-makes m n p q false some = makes-bare (joint-fault m n) (both m n) (joint false m n) some refl

@@ -69,16 +69,3 @@ First-fault there (Err f) = (there f ≡ true) × ((g : SourceFault) → Before 
 pub record Makes (there : SourceFault → Bool) (m made : Meaning) : Type 0 where
   pub sound : Sound there → made ≡ m
   pub faulty : Faulty there → made ≡ bare
-
--- the one fault that two sources can have: different option counts on a line
-abbrev pub joint-fault : Meaning → Meaning → SourceFault → Bool
-joint-fault m n Lines = false
-joint-fault m n (Span i) = false
-joint-fault m n (Values i) = false
-joint-fault m n Records = false
-joint-fault m n (Names r) = false
-joint-fault m n (Kind r) = false
-joint-fault m n (Range r) = false
-joint-fault m n (Words r) = false
-joint-fault m n (Counts i) = not (eqb (m .count i) (n .count i))
-joint-fault m n Memory = false

@@ -1,9 +1,8 @@
 -- Records of lines that exist and differ are all added.
-use mathlib.Core.Path.{_≡_, refl, sym, ap, _∙_}
-use mathlib.Core.Bool.{Bool, true, false, _&&_, not}
+use mathlib.Core.Path.{_≡_, refl, ap, _∙_}
+use mathlib.Core.Bool.{Bool, true, false, not}
 use mathlib.Core.List.{List, [], _∷_}
-use Prim.Native.Nat.{ℕ, zero, suc}
-use lib.Dec.{eqb, ltb}
+use Prim.Native.Nat.{ℕ, suc}
 use lib.ListN.{length}
 use Rattle.std.proofs.shelf.Tests.{cond-true, not-false}
 use Rattle.std.specs.Iters.{folded}
@@ -11,7 +10,7 @@ use Rattle.model.specs.Meaning.{Meaning}
 use Rattle.model.specs.Making.{no-rules, with-rule, adding, records-meaning}
 use Rattle.model.proofs.Folding.{all-added}
 use Rattle.rules.specs.Faults.{flawed-at, two-of}
-use Rattle.supports.specs.Adding.{fit, unruled, ruled, adding-if}
+use Rattle.supports.specs.Adding.{fit, unruled, adding-if}
 
 module _ {R : Type 0} (first second : R → ℕ) (f : R → ℕ → ℕ → Bool) (n : ℕ) where
   -- no record names a missing line, or one line twice

@@ -1,8 +1,7 @@
 -- The words answer from the meaning: no bit is set of what does not exist.
 use mathlib.Core.Path.{_≡_, sym, _∙_}
-use mathlib.Core.Bool.{true, false, _&&_}
 use mathlib.Core.Logic.{⊎-elim}
-use Prim.Native.Nat.{ℕ, _<_, _≤_}
+use Prim.Native.Nat.{ℕ, _<_}
 use native.Mathlib.Omega.{arith}
 use lib.ListN.{length, getD}
 use Rattle.std.proofs.shelf.Tests.{and-left, cases-bool}
@@ -12,7 +11,7 @@ use Rattle.bits.proofs.Bits.{on-zero}
 use Rattle.model.specs.Making.{two-lines, two-options}
 use Rattle.model.specs.Words.{place, words-meaning}
 use Rattle.model.proofs.Bools.{implied}
-use Rattle.model.proofs.Pairs.{pair-of, lines-of}
+use Rattle.model.proofs.Pairs.{pair-of}
 use Rattle.supports.specs.declared.supports.Supports.{Supports}
 use Rattle.supports.specs.Held.{held, supports-meaning}
 

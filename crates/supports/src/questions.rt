@@ -1,7 +1,7 @@
 // The questions of a source, answered from the words.
 ghost use mathlib.Core.Path.{_≡_};
 ghost use Prim.Native.Nat.{ℕ, _<_};
-ghost use lib.ListN.{getD, length};
+ghost use lib.ListN.{length};
 ghost use Rattle.bits.specs.Bits.{on};
 ghost use Rattle.model.specs.Words.{place};
 ghost use Rattle.std.specs.Of.Vec.{vec-items, vec-len};

@@ -1,6 +1,5 @@
-use mathlib.Core.Path.{_≡_, sym, ap, subst, _∙_}
+use mathlib.Core.Path.{_≡_, sym, ap, _∙_}
 use native.Mathlib.Omega.{arith}
-use Prim.Native.Nat.{_<_}
 use Rattle.model.specs.Making.{with-part}
 use Rattle.model.specs.Words.{words-meaning}
 use Rattle.model.proofs.Parts.{row, part-frame, row-start, row-skip, row-ban}

@@ -1,10 +1,10 @@
-use mathlib.Core.Path.{_≡_, sym, ap, _∙_}
+use mathlib.Core.Path.{_≡_, ap, _∙_}
 use mathlib.Core.List.{List}
 use native.Mathlib.Omega.{arith}
 use Prim.Native.Nat.{ℕ, _<_}
 use Rattle.bits.specs.Bits.{marked}
 use lib.ListN.{length, length-set, getD}
-use Rattle.std.specs.Of.Vec.{vec-items, vec-len}
+use Rattle.std.specs.Of.Vec.{vec-items}
 use Rattle.model.specs.Making.{with-join}
 use Rattle.model.specs.Words.{words-meaning, mark-at}
 use Rattle.model.proofs.Steps.{Made, join-made}

@@ -1,12 +1,11 @@
-use mathlib.Core.Path.{_≡_, sym, ap, subst, _∙_}
+use mathlib.Core.Path.{_≡_, sym, subst, _∙_}
 use mathlib.Core.Bool.{true, _&&_}
 use mathlib.Core.List.{List}
-use Prim.Native.Nat.{ℕ, _*_, _≤_, _<_}
-use native.Mathlib.Omega.{arith}
+use Prim.Native.Nat.{ℕ, _*_, _≤_}
 use lib.Dec.{ltb, leb}
 use lib.ListN.{length, getD, replicate}
 use Rattle.std.proofs.shelf.Tests.{and-parts, ltb-true, leb-true}
-use Rattle.std.specs.Of.Vec.{vec-items, vec-len}
+use Rattle.std.specs.Of.Vec.{vec-items}
 use Rattle.model.specs.Making.{counts-ok, no-rules}
 use Rattle.model.specs.Words.{Unruled}
 use Rattle.model.proofs.Steps.{Made, none-made}

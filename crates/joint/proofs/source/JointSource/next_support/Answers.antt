@@ -1,6 +1,6 @@
 use native.Mathlib.Omega.{arith}
 use Rattle.model.proofs.Facts.{support-few}
-use Rattle.rules.proofs.joint.JointSource.next_support.Needs as need
+use Rattle.joint.proofs.source.JointSource.next_support.Needs as need
 
 pub add-at : need.add-at
 add-at g c =

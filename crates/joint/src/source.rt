@@ -1,25 +1,13 @@
 // Two sources as one: lines are joined if either joins them, and options go together if both say so.
 ghost use mathlib.Core.Path.{_≡_};
+ghost use Rattle.joint.specs.Faults.{joint-fault};
+ghost use Rattle.joint.specs.Nearer.{below, nearer};
 ghost use Rattle.model.proofs.Joining.{joint-lawful};
 ghost use Rattle.model.specs.Joints.{both, joint};
-ghost use Rattle.rules.specs.Faults.{Faulty, First-fault, Makes, Sound, joint-fault};
-ghost use Rattle.rules.specs.Nearer.{below, nearer};
+ghost use Rattle.rules.specs.Faults.{Faulty, Makes, Sound};
 ghost use Rattle.std.specs.Orderings.{When};
-use crate::fault::SourceFault;
-use crate::source::RuleSource;
-
-// The check of two sources: the first line on which their option counts differ. A missing line has
-// none, so this finds different numbers of lines too.
-pub fn check_joint<A: RuleSource, B: RuleSource>(first: &A, second: &B) -> Result<(), SourceFault>
-    ensures { λ r. ⌜ First-fault (joint-fault (A·RuleSource .meaning (now (first .entry))) (B·RuleSource .meaning (now (second .entry)))) r ⌝ }
-{
-    for line in 0..first.lines().max(second.lines()) {
-        if first.count(line) != second.count(line) {
-            return Err(SourceFault::Counts(line));
-        }
-    }
-    Ok(())
-}
+use crate::check::check_joint;
+use rules::source::RuleSource;
 
 // Whether the check passes.
 fn are_alike<A: RuleSource, B: RuleSource>(first: &A, second: &B) -> bool
@@ -52,6 +40,8 @@ fn below(x: Option<usize>, limit: usize) -> Option<usize>
     }
 }
 
+// Nothing but the flag ties the two sources, so the answers are lawful for any two: the second is read
+// only of lines of the first that it joins. Where the counts are equal this leaves nothing out.
 #[derive(Drop)]
 pub struct Joint<A: RuleSource, B: RuleSource> {
     first: A,

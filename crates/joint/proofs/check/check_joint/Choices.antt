@@ -1,6 +1,6 @@
 use mathlib.Core.Path.{_≡_}
 use Prim.Native.Nat.{ℕ, _<_}
-use Rattle.rules.proofs.joint.check_joint.Given as given
+use Rattle.joint.proofs.check.check_joint.Given as given
 
 -- the counts are equal on the lines before
 abbrev pub Inv-loop-line : given.InvT-loop-line

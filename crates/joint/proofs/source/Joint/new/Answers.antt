@@ -1,5 +1,5 @@
-use Rattle.rules.proofs.Makings.{joint-makes}
-use Rattle.rules.proofs.joint.Joint.new.Needs as need
+use Rattle.joint.proofs.Makings.{joint-makes}
+use Rattle.joint.proofs.source.Joint.new.Needs as need
 
 pub returns : need.returns
 returns g c =

@@ -2,7 +2,7 @@ use mathlib.Core.Path.{_≡_}
 use mathlib.Core.Bool.{false}
 use Prim.Native.Nat.{ℕ, _-_, _≤_, _<_}
 use Rattle.model.specs.Joints.{joint}
-use Rattle.rules.proofs.joint.JointSource.next_support.Given as given
+use Rattle.joint.proofs.source.JointSource.next_support.Given as given
 
 -- what was passed does not go with option a of line i by both sources
 abbrev pub Inv-loop-b : given.InvT-loop-b

@@ -1,0 +1,3 @@
+// The joint source: two sources of equal option counts as one.
+pub mod check;
+pub mod source;
