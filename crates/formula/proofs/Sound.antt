@@ -8,10 +8,10 @@ use lib.IntN.{ℤ, pos}
 use lib.ListN.{length, length-map}
 use Rattle.std.proofs.shelf.Tests.{and-parts, and-from, not-false}
 use Rattle.std.specs.Iters.{folded}
-use Rattle.model.specs.Making.{counts-ok}
+use Rattle.model.specs.Making.{counts-ok, two-of}
 use Rattle.rules.specs.declared.fault.SourceFault.{SourceFault}
 use Rattle.rules.specs.declared.fault.SourceFault.the-variants.{Lines, Span, Names}
-use Rattle.rules.specs.Faults.{flawed-at, two-of}
+use Rattle.rules.specs.Faults.{flawed-at}
 use Rattle.supports.specs.Adding.{fit, adding-if, unruled}
 use Rattle.supports.proofs.Folding.{all-added-if}
 use Rattle.formula.specs.declared.records.LineRecord.{LineRecord}

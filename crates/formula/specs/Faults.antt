@@ -11,7 +11,8 @@ use Rattle.std.specs.declared.option.Option.{Option}
 use Rattle.std.specs.declared.option.Option.the-variants.{Some, None}
 use Rattle.rules.specs.declared.fault.SourceFault.{SourceFault}
 use Rattle.rules.specs.declared.fault.SourceFault.the-variants.{Lines, Span, Values, Records, Names, Kind as Kinds, Range, Words, Counts, Memory}
-use Rattle.rules.specs.Faults.{flawed-at, two-of}
+use Rattle.model.specs.Making.{two-of}
+use Rattle.rules.specs.Faults.{flawed-at}
 use Rattle.kinds.specs.declared.kind.Kind.{Kind}
 use Rattle.formula.specs.declared.records.LineRecord.{LineRecord}
 use Rattle.formula.specs.declared.records.RuleRecord.{RuleRecord}

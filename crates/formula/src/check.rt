@@ -26,7 +26,14 @@ fn rises(values: &[i32]) -> bool
     true
 }
 
-// A line with 0 or over 64 options, or whose values end outside the run of so many.
+// Whether the line has 0 or over 64 options, or its values end outside a run of len.
+fn is_bad_span(len: usize, l: LineRecord) -> bool
+    ensures { λ r. ⌜ r ≡ bad-span len l ⌝ }
+{
+    !((0 < l.count) & ((l.count <= 64) & ends_inside(l.start, l.count, len)))
+}
+
+// A line whose span is bad in a run of len values.
 #[derive(Drop)]
 struct BadSpan {
     len: usize,
@@ -36,7 +43,7 @@ impl Flaw<LineRecord> for BadSpan as SpanFlaw {
     ghost flawed = { λ w l. bad-span (w .len) l };
 
     fn has(&self, l: &LineRecord) -> bool {
-        !((0 < l.count) & ((l.count <= 64) & ends_inside(l.start, l.count, self.len)))
+        is_bad_span(self.len, *l)
     }
 }
 
@@ -50,8 +57,7 @@ impl<'a> Flaw<LineRecord> for BadValues<'a> as ValuesFlaw {
     ghost flawed = { λ w l. bad-values (w .values .now) l };
 
     fn has(&self, l: &LineRecord) -> bool {
-        let len = self.values.len();
-        if l.count == 0 || l.count > 64 || l.start > len || l.count > len - l.start {
+        if is_bad_span(self.values.len(), *l) {
             return false;
         }
         !rises(&self.values[l.start..l.start + l.count])

@@ -7,9 +7,13 @@ use lib.Dec.{eqb, ltb, leb}
 use lib.ListN.{length, getD}
 use Rattle.model.specs.Meaning.{Meaning}
 
--- both lines exist and differ
+-- of n lines, the lines i and j exist and differ
+abbrev pub two-of : ℕ → ℕ → ℕ → Bool
+two-of n i j = ltb i n && (ltb j n && not (eqb i j))
+
+-- the same of the lines with these option counts
 abbrev pub two-lines : List ℕ → ℕ → ℕ → Bool
-two-lines cs i j = ltb i (length cs) && (ltb j (length cs) && not (eqb i j))
+two-lines cs i j = two-of (length cs) i j
 
 -- and both options exist
 abbrev pub two-options : List ℕ → ℕ → ℕ → ℕ → ℕ → Bool

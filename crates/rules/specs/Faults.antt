@@ -1,10 +1,9 @@
 -- Faults of the parts of a source, and which of them is told.
 use mathlib.Core.Path.{_≡_}
-use mathlib.Core.Bool.{Bool, true, false, _&&_, not}
+use mathlib.Core.Bool.{Bool, true, false}
 use mathlib.Core.List.{List, [], _∷_}
 use mathlib.Core.Logic.{_⊎_}
 use Prim.Native.Nat.{ℕ, zero, suc, _<_}
-use lib.Dec.{eqb, ltb}
 use Rattle.std.specs.declared.result.Result.{Result}
 use Rattle.std.specs.declared.result.Result.the-variants.{Ok, Err}
 use Rattle.model.specs.Meaning.{Meaning}
@@ -37,10 +36,6 @@ concerned (Range r) = r
 concerned (Words r) = r
 concerned (Counts i) = i
 concerned Memory = 0
-
--- the lines i and j of n lines exist and differ
-abbrev pub two-of : ℕ → ℕ → ℕ → Bool
-two-of n i j = ltb i n && (ltb j n && not (eqb i j))
 
 -- whether there is an element at place p that has the flaw
 abbrev pub flawed-at : {X : Type 0} → (X → Bool) → List X → ℕ → Bool

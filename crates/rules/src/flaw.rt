@@ -44,6 +44,7 @@ pub trait Flaw<T> {
     // Whether it is wrong with an element.
     ghost flawed: { Self → T → Bool };
 
+    // The same as a question.
     fn has(&self, x: &T) -> bool
         ensures { λ r. ⌜ r ≡ flawed (now (self .entry)) (now (x .entry)) ⌝ };
 }

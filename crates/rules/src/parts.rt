@@ -3,7 +3,7 @@ ghost use mathlib.Core.Path.{_≡_};
 ghost use Prim.Native.Nat.{_+_};
 ghost use lib.Dec.{leb};
 ghost use lib.ListN.{getD};
-ghost use Rattle.rules.specs.Faults.{two-of};
+ghost use Rattle.model.specs.Making.{two-of};
 
 // The element at a place, or the default past the end.
 pub fn item_or<T: Copy>(items: &[T], at: usize, default: T) -> T

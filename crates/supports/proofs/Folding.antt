@@ -7,9 +7,9 @@ use lib.ListN.{length}
 use Rattle.std.proofs.shelf.Tests.{cond-true, not-false}
 use Rattle.std.specs.Iters.{folded}
 use Rattle.model.specs.Meaning.{Meaning}
-use Rattle.model.specs.Making.{no-rules, with-rule, adding, records-meaning}
+use Rattle.model.specs.Making.{two-of, no-rules, with-rule, adding, records-meaning}
 use Rattle.model.proofs.Folding.{all-added}
-use Rattle.rules.specs.Faults.{flawed-at, two-of}
+use Rattle.rules.specs.Faults.{flawed-at}
 use Rattle.supports.specs.Adding.{fit, unruled, adding-if}
 
 module _ {R : Type 0} (first second : R → ℕ) (f : R → ℕ → ℕ → Bool) (n : ℕ) where

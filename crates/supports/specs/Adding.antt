@@ -1,11 +1,11 @@
 -- A source of option counts, and a rule more.
-use mathlib.Core.Bool.{Bool, cond, _&&_, not}
+use mathlib.Core.Bool.{Bool, cond, _&&_}
 use mathlib.Core.List.{List}
 use Prim.Native.Nat.{ℕ}
-use lib.Dec.{eqb, ltb, leb}
+use lib.Dec.{ltb, leb}
 use lib.ListN.{length}
 use Rattle.model.specs.Meaning.{Meaning}
-use Rattle.model.specs.Making.{bare, counts-ok, no-rules, with-rule}
+use Rattle.model.specs.Making.{bare, counts-ok, no-rules, two-of, with-rule}
 
 -- there are 1 to 128 lines, and each has 1 to 64 options
 abbrev pub fit : List ℕ → Bool
@@ -17,7 +17,7 @@ unruled cs = cond (fit cs) (no-rules cs) bare
 
 -- the rule f between the lines i and j more, if they exist and differ
 abbrev pub ruled : ℕ → ℕ → (ℕ → ℕ → Bool) → Meaning → Meaning
-ruled i j f m = cond (ltb i (m .lines) && (ltb j (m .lines) && not (eqb i j))) (with-rule i j f m) m
+ruled i j f m = cond (two-of (m .lines) i j) (with-rule i j f m) m
 
 module _ {R : Type 0} (first second : R → ℕ) (f : R → ℕ → ℕ → Bool) where
   -- one record more, if its lines exist and differ

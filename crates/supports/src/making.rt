@@ -16,14 +16,17 @@ use crate::supports::Supports;
 use bits::ones;
 use bits::with_wide;
 use bits::without;
+use rules::parts::names_two;
 use rules::source::RuleSource;
 use std::alloc::AllocError;
 use std::alloc::Global;
 
-// A rule between two lines: which option of the first it allows with which of the second.
+// A rule between two lines.
 pub trait PairRule {
+    // Whether it allows an option of the first line with one of the second.
     ghost permits: { Self → ℕ → ℕ → Bool };
 
+    // The same as a question.
     fn allows(&self, a: usize, b: usize) -> bool
         ensures { λ r. ⌜ r ≡ permits (now (self .entry)) a b ⌝ };
 }
@@ -202,8 +205,7 @@ impl Supports {
     pub fn add<R: PairRule>(&mut self, i: usize, j: usize, rule: &R)
         ensures { λ _. ⌜ supports-meaning (now (self .exit)) ≡ ruled i j (permits (now (rule .entry))) (supports-meaning (now (self .entry))) ⌝ }
     {
-        let lines = self.lines();
-        if i < lines && j < lines && i != j {
+        if names_two(self.lines(), i, j) {
             self.add_between(i, j, rule);
         }
     }

@@ -4,7 +4,7 @@ ghost use Rattle.std.specs.Of.Vec.{vec-items};
 
 #[derive(Drop)]
 pub struct Supports {
-    // the option count of each line, and a number that none of them passes
+    // the option count of each line, and the number of places that every line has: no count is larger
     pub(crate) counts: Vec<usize>,
     pub(crate) width: usize,
     // for each line a word whose bit j tells whether line j is joined with it

@@ -6,7 +6,8 @@ use lib.Dec.{ltb, leb}
 use lib.ListN.{length, getD}
 use Rattle.rules.specs.declared.fault.SourceFault.{SourceFault}
 use Rattle.rules.specs.declared.fault.SourceFault.the-variants.{Lines, Span, Values, Records, Names, Kind, Range, Words, Counts, Memory}
-use Rattle.rules.specs.Faults.{flawed-at, two-of}
+use Rattle.model.specs.Making.{two-of}
+use Rattle.rules.specs.Faults.{flawed-at}
 use Rattle.tables.specs.declared.records.TableRecord.{TableRecord}
 
 -- the line has 0 or over 64 options
