@@ -1,4 +1,6 @@
 // Bits of words, for words of 64 bits and, where there is one for each of 128 lines, of 128 bits.
+#![tactic(auto)]
+
 ghost use Rattle.std.specs.Prelude.{◌≡◌, ℕ, ◌+◌, ◌-◌, ◌/◌, ◌^◌, ◌<◌, ◌&&◌, ◌||◌, ltb, if◌then◌else◌, MatchOption, ◌==◌, bit_and, bit_or, bit_xor, nat_le, nat_lt};
 ghost use Rattle.std.specs.Int.Count.{count_trailing_zeros};
 ghost use Rattle.bits.specs.Bits.{cleared, marked, on};

@@ -1,5 +1,7 @@
 // A league circuit of eight lanes. Each lane has a line for its grade, in quarter steps, and a line for
 // its hold colour. Rules of all five kinds tie the lanes; the filter strikes what no plan can have.
+#![tactic(auto)]
+
 use filters::outcome::Outcome;
 use filters::rounds::by_rounds;
 use formula::records::{LineRecord, RuleRecord};

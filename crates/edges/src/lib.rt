@@ -1,5 +1,7 @@
 // Tests alone: parts of sources at the edges of each rule, the questions of a source, and the levels and
 // filters on small walls.
+#![tactic(auto)]
+
 #[cfg(test)]
 mod above_arc;
 #[cfg(test)]

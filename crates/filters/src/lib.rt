@@ -1,4 +1,6 @@
 // Filters: each leaves the largest good subset of an option set, at any level.
+#![tactic(auto)]
+
 pub mod outcome;
 pub mod queue;
 pub mod rounds;

@@ -15,8 +15,8 @@ type Tickets = [u64; 128];
 
 // All lines wait, in order.
 fn all_wait<L: Level>(level: &L) -> Tickets
-    ensures wait { (i : ℕ) → i < (meaning level.now).lines → slice_index result i ≡ i + 1 }
-    ensures others { (i : ℕ) → (meaning level.now).lines ≤ i → slice_index result i ≡ 0 }
+    ensures wait { (i : ℕ) → i < (L.meaning level.now).lines → slice_index result i ≡ i + 1 }
+    ensures others { (i : ℕ) → (L.meaning level.now).lines ≤ i → slice_index result i ≡ 0 }
 {
     let mut tickets = [0; 128];
     let lines = level.lines();
@@ -45,7 +45,7 @@ fn first_waiting(tickets: &[u64]) -> Option<usize>
 // Whether line i wakes line j: it touches j, and j does not wait.
 fn wakes<L: Level>(level: &L, tickets: &[u64], i: usize, j: usize) -> bool
     requires { j < length tickets.now }
-    ensures { result ≡ (slice_index tickets.now j == 0 && touching level.now i j) }
+    ensures { result ≡ (slice_index tickets.now j == 0 && L.touching level.now i j) }
 {
     tickets[j] == 0 && level.touches(i, j)
 }
@@ -54,8 +54,8 @@ fn wakes<L: Level>(level: &L, tickets: &[u64], i: usize, j: usize) -> bool
 // number. `last` is the last ticket that was given, and so is the answer. Each strike wakes at most 128
 // lines, so tickets do not run out; that is not proved, and past the largest one all get that one.
 fn wake<L: Level>(level: &L, tickets: &mut [u64], line: usize, last: u64) -> u64
-    requires { ((meaning level.now).lines ≤ length tickets.old) × (UpTo tickets.old last) }
-    ensures { Woken (meaning level.now).lines (touching level.now line) tickets.old tickets.new last result }
+    requires { ((L.meaning level.now).lines ≤ length tickets.old) × (UpTo tickets.old last) }
+    ensures { Woken (L.meaning level.now).lines (L.touching level.now line) tickets.old tickets.new last result }
 {
     let mut next = last;
     let lines = level.lines();
@@ -71,7 +71,7 @@ fn wake<L: Level>(level: &L, tickets: &mut [u64], line: usize, last: u64) -> u64
 // Takes the first waiting line and sweeps it, until none waits or a line has no option left, and says
 // whether the set is settled.
 fn settle<L: Level>(level: &L, set: &mut [u64]) -> bool
-    ensures { MatchBool result (Filtered (meaning level.now) (passing level.now) set.old set.new Outcome.Settled) (EmptiedLine (meaning level.now) (passing level.now) set.old set.new) }
+    ensures { MatchBool result (Filtered (L.meaning level.now) (L.passing level.now) set.old set.new Outcome.Settled) (EmptiedLine (L.meaning level.now) (L.passing level.now) set.old set.new) }
 {
     if some_empty(level, set) {
         return false;
@@ -95,7 +95,7 @@ fn settle<L: Level>(level: &L, set: &mut [u64]) -> bool
 
 // Strikes every option, as a line has none left and so there is no plan.
 fn no_plan<L: Level>(level: &L, set: &mut [u64]) -> Outcome
-    ensures { (s : List ℕ) → EmptiedLine (meaning level.now) (passing level.now) s set.old → Filtered (meaning level.now) (passing level.now) s set.new result }
+    ensures { (s : List ℕ) → EmptiedLine (L.meaning level.now) (L.passing level.now) s set.old → Filtered (L.meaning level.now) (L.passing level.now) s set.new result }
 {
     strike_all(level, set);
     Outcome::NoPlan
@@ -104,7 +104,7 @@ fn no_plan<L: Level>(level: &L, set: &mut [u64]) -> Outcome
 // Leaves the largest good subset of the set, and says whether an option of each line is left. Once a
 // line has none left there is no plan, and every option is struck.
 pub fn by_queue<L: Level>(level: &L, set: &mut [u64]) -> Outcome
-    ensures { Filtered (meaning level.now) (passing level.now) set.old set.new result }
+    ensures { Filtered (L.meaning level.now) (L.passing level.now) set.old set.new result }
 {
     if settle(level, set) {
         Outcome::Settled

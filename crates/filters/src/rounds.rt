@@ -9,8 +9,8 @@ use levels::level::Level;
 
 // One round.
 fn sweep_all<L: Level>(level: &L, set: &mut [u64]) -> Swept
-    requires { EachLine (meaning level.now) set.old }
-    ensures { RoundSwept (meaning level.now) (passing level.now) set.old set.new result }
+    requires { EachLine (L.meaning level.now) set.old }
+    ensures { RoundSwept (L.meaning level.now) (L.passing level.now) set.old set.new result }
 {
     let mut struck = false;
     let lines = level.lines();
@@ -31,7 +31,7 @@ fn sweep_all<L: Level>(level: &L, set: &mut [u64]) -> Swept
 // Leaves the largest good subset of the set, and says whether an option of each line is left. Once a
 // line has none left there is no plan, and every option is struck.
 pub fn by_rounds<L: Level>(level: &L, set: &mut [u64]) -> Outcome
-    ensures { Filtered (meaning level.now) (passing level.now) set.old set.new result }
+    ensures { Filtered (L.meaning level.now) (L.passing level.now) set.old set.new result }
 {
     if some_empty(level, set) {
         strike_all(level, set);

@@ -30,8 +30,8 @@ fn strike(set: &mut [u64], line: usize, option: usize)
 
 // Strikes an option if it stands and fails, and says whether it did.
 fn test_option<L: Level>(level: &L, set: &mut [u64], line: usize, option: usize) -> bool
-    requires { (line < (meaning level.now).lines) × (option < (meaning level.now).count line) }
-    ensures { Tested (meaning level.now) (passing level.now) line option set.old set.new result }
+    requires { (line < (L.meaning level.now).lines) × (option < (L.meaning level.now).count line) }
+    ensures { Tested (L.meaning level.now) (L.passing level.now) line option set.old set.new result }
 {
     if !has(word(set, line), option) || level.passes(set, line, option) {
         return false;
@@ -42,7 +42,7 @@ fn test_option<L: Level>(level: &L, set: &mut [u64], line: usize, option: usize)
 
 // Whether no option of the line stands: the least bit of its word is past them, or there is none.
 pub(crate) fn line_empty<L: Level>(level: &L, set: &[u64], line: usize) -> bool
-    ensures { MatchBool result (NoneOn (meaning level.now) set.now line) (SomeOn (meaning level.now) set.now line) }
+    ensures { MatchBool result (NoneOn (L.meaning level.now) set.now line) (SomeOn (L.meaning level.now) set.now line) }
 {
     let count = level.count(line);
     match next_one(word(set, line), 0) {
@@ -53,7 +53,7 @@ pub(crate) fn line_empty<L: Level>(level: &L, set: &[u64], line: usize) -> bool
 
 // Whether some line has no option standing.
 pub(crate) fn some_empty<L: Level>(level: &L, set: &[u64]) -> bool
-    ensures { MatchBool result ((i : ℕ) × (i < (meaning level.now).lines) × NoneOn (meaning level.now) set.now i) (EachLine (meaning level.now) set.now) }
+    ensures { MatchBool result ((i : ℕ) × (i < (L.meaning level.now).lines) × NoneOn (L.meaning level.now) set.now i) (EachLine (L.meaning level.now) set.now) }
 {
     let lines = level.lines();
     for i in 0..lines {
@@ -66,7 +66,7 @@ pub(crate) fn some_empty<L: Level>(level: &L, set: &[u64]) -> bool
 
 // Strikes every option; bits that stand for none stay.
 pub(crate) fn strike_all<L: Level>(level: &L, set: &mut [u64])
-    ensures { (i b : ℕ) → on (slice_index set.new i) b ≡ (on (slice_index set.old i) b && nat_le ((meaning level.now).count i) b) }
+    ensures { (i b : ℕ) → on (slice_index set.new i) b ≡ (on (slice_index set.old i) b && nat_le ((L.meaning level.now).count i) b) }
 {
     for i in 0..set.len() {
         set[i] = above(set[i], level.count(i));
@@ -75,7 +75,7 @@ pub(crate) fn strike_all<L: Level>(level: &L, set: &mut [u64])
 
 // Tests the options of a line in order, and stops once none of them stands.
 pub(crate) fn sweep_line<L: Level>(level: &L, set: &mut [u64], line: usize) -> Swept
-    ensures { LineSwept (meaning level.now) (passing level.now) (touching level.now line line) line set.old set.new result }
+    ensures { LineSwept (L.meaning level.now) (L.passing level.now) (L.touching level.now line line) line set.old set.new result }
 {
     let mut struck = false;
     let count = level.count(line);

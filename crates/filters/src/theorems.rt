@@ -36,8 +36,8 @@ fn copy_of(set: &[u64]) -> OptionSet
 // Every set has a largest good subset, which holds every other one: this one. Its other bits are those
 // of the set.
 pub fn largest_good_subset<L: Level>(level: &L, set: &[u64]) -> OptionSet
-    ensures largest { Largest (meaning level.now) (passing level.now) set.now result }
-    ensures rest { (i a : ℕ) → i < 128 → (Is (meaning level.now) i a → ⊥) → on (slice_index result i) a ≡ on (slice_index set.now i) a }
+    ensures largest { Largest (L.meaning level.now) (L.passing level.now) set.now result }
+    ensures rest { (i a : ℕ) → i < 128 → (Is (L.meaning level.now) i a → ⊥) → on (slice_index result i) a ≡ on (slice_index set.now i) a }
 {
     let mut left = copied(set);
     let _ = by_rounds(level, &mut left);
@@ -62,8 +62,8 @@ pub struct BothWays {
 fn filter_both<L: Level>(level: &L, set: OptionSet) -> BothWays
     ensures agree { result.rounds.outcome ≡ result.queue.outcome }
     ensures same { (i : ℕ) → slice_index result.rounds.left i ≡ slice_index result.queue.left i }
-    ensures ended { Ended (meaning level.now) (passing level.now) result.rounds.left result.rounds.outcome }
-    ensures largest { (s : List ℕ) → CopyOf s set → Largest (meaning level.now) (passing level.now) s result.rounds.left }
+    ensures ended { Ended (L.meaning level.now) (L.passing level.now) result.rounds.left result.rounds.outcome }
+    ensures largest { (s : List ℕ) → CopyOf s set → Largest (L.meaning level.now) (L.passing level.now) s result.rounds.left }
 {
     let mut rounds = set;
     let mut queue = set;
@@ -87,8 +87,8 @@ fn filter_both<L: Level>(level: &L, set: OptionSet) -> BothWays
 pub fn both_ways<L: Level>(level: &L, set: &[u64]) -> BothWays
     ensures agree { result.rounds.outcome ≡ result.queue.outcome }
     ensures same { (i : ℕ) → slice_index result.rounds.left i ≡ slice_index result.queue.left i }
-    ensures ended { Ended (meaning level.now) (passing level.now) result.rounds.left result.rounds.outcome }
-    ensures largest { Largest (meaning level.now) (passing level.now) set.now result.rounds.left }
+    ensures ended { Ended (L.meaning level.now) (L.passing level.now) result.rounds.left result.rounds.outcome }
+    ensures largest { Largest (L.meaning level.now) (L.passing level.now) set.now result.rounds.left }
 {
     filter_both(level, copy_of(set))
 }

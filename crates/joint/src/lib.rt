@@ -1,3 +1,5 @@
 // The joint source: two sources of equal option counts as one.
+#![tactic(auto)]
+
 pub mod check;
 pub mod source;

@@ -18,7 +18,7 @@ pub struct Arc<S: RuleSource> {
 // Whether line j has an option in the set that goes with option a of line i: the next option that
 // goes with it, until one stands.
 fn supported<S: RuleSource>(source: &S, set: &[u64], i: usize, a: usize, j: usize) -> bool
-    ensures { Decides result (Supported (meaning source.now) set.now i a j) }
+    ensures { Decides result (Supported (S.meaning source.now) set.now i a j) }
 {
     let standing = word(set, j);
     let mut from = 0;

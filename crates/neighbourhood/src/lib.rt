@@ -1,5 +1,7 @@
 // Neighbourhood singleton arc consistency: with its line held to it, an option passes if its line and
 // the lines joined with that, looked at alone, have a good subset at arc that is not empty.
+#![tactic(auto)]
+
 ghost use Rattle.std.specs.Prelude.{◌≡◌, ℕ, ◌<◌, ◌≤◌, ◌&&◌, length, take, Decides, MatchBool, ◌==◌, slice_index};
 ghost use Rattle.bits.specs.Bits.{on};
 ghost use Rattle.model.specs.Passing.{NearPasses, near, stays};
@@ -35,7 +37,7 @@ fn line_word(line: usize) -> u128
 // The word of the line and of the lines joined with it.
 fn near_word<S: RuleSource>(source: &S, centre: usize) -> u128
     requires { centre < 128 }
-    ensures { (k : ℕ) → on result k ≡ near (meaning source.now) centre k }
+    ensures { (k : ℕ) → on result k ≡ near (S.meaning source.now) centre k }
 {
     either_wide(line_word(centre), source.joined_lines(centre))
 }
@@ -59,7 +61,7 @@ fn listed(word: u128) -> ([usize; 128], usize)
 fn looked<S: RuleSource>(source: &S, centre: usize) -> ([usize; 128], usize)
     requires { centre < 128 }
     ensures few { result.1 ≤ 128 }
-    ensures lists { Lists (near (meaning source.now) centre) (take result.1 result.0) }
+    ensures lists { Lists (near (S.meaning source.now) centre) (take result.1 result.0) }
 {
     listed(near_word(source, centre))
 }
@@ -89,8 +91,8 @@ fn held_words(set: &[u64], shown: &[usize], centre: usize, option: usize) -> Opt
 
 // Whether a run by rounds leaves an option of each line.
 fn settles<L: Level>(level: &L, words: &mut [u64]) -> bool
-    ensures largest { Largest (meaning level.now) (passing level.now) words.old words.new }
-    ensures ended { MatchBool result (Full (meaning level.now) (passing level.now) words.new) (Empty (meaning level.now) words.new) }
+    ensures largest { Largest (L.meaning level.now) (L.passing level.now) words.old words.new }
+    ensures ended { MatchBool result (Full (L.meaning level.now) (L.passing level.now) words.new) (Empty (L.meaning level.now) words.new) }
 {
     match by_rounds(level, words) {
         Outcome::Settled => true,
@@ -100,7 +102,7 @@ fn settles<L: Level>(level: &L, words: &mut [u64]) -> bool
 
 // The trial of an option of the set: a run at arc over a view of the looked-at lines alone.
 fn near_passes<S: RuleSource>(source: &S, set: &[u64], line: usize, option: usize) -> bool
-    ensures { Decides result (NearPasses (meaning source.now) set.now line option) }
+    ensures { Decides result (NearPasses (S.meaning source.now) set.now line option) }
 {
     if option >= source.count(line) || !has(word(set, line), option) {
         return false;

@@ -51,7 +51,7 @@ pub trait Flaw<T> {
 
 // The place of the first element that has the flaw.
 pub fn first_with<T, F: Flaw<T>>(items: &[T], flaw: &F) -> Option<usize>
-    ensures { Least (flawed_at (flawed flaw.now) items.now) 0 result }
+    ensures { Least (flawed_at (F.flawed flaw.now) items.now) 0 result }
 {
     for i in 0..items.len() {
         if flaw.has(&items[i]) {

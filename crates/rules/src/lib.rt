@@ -1,4 +1,6 @@
 // Rule sources: which lines are joined, and which of their options go together.
+#![tactic(auto)]
+
 pub mod fault;
 pub mod flaw;
 pub mod lent;

@@ -1,5 +1,7 @@
 // Singleton consistency over any level below: an option passes if the set with its line held to it has
 // a largest good subset at the level below that is not empty.
+#![tactic(auto)]
+
 ghost use Rattle.std.specs.Prelude.{◌≡◌, ℕ, ◌<◌, ◌&&◌, slice_index};
 ghost use Rattle.bits.specs.Bits.{on};
 ghost use Rattle.model.specs.Passing.{SinglePasses, single_touching, stays};
@@ -33,7 +35,7 @@ fn hold(set: &[u64], line: usize, option: usize) -> OptionSet
 
 // The trial of an option of the set: a run at the level below on the set with its line held to it.
 fn tried<L: Level>(below: &L, set: &[u64], line: usize, option: usize) -> Option<OptionSet>
-    ensures { Tried (meaning below.now) (passing below.now) set.now line option result }
+    ensures { Tried (L.meaning below.now) (L.passing below.now) set.now line option result }
 {
     if option >= below.count(line) || !has(word(set, line), option) {
         return None;
@@ -49,7 +51,7 @@ impl<L: Level> Singleton<L> {
     // The singleton test of an option: the largest good subset, at the level below, of the set with the
     // line held to the option, or none where that is empty or the set has no such option.
     pub fn trial(&self, set: &[u64], line: usize, option: usize) -> Option<OptionSet>
-        ensures { Tried (meaning self.now.below) (passing self.now.below) set.now line option result }
+        ensures { Tried (L.meaning self.now.below) (L.passing self.now.below) set.now line option result }
     {
         tried(&self.below, set, line, option)
     }

@@ -12,7 +12,7 @@ use singleton::Singleton;
 
 // What a level leaves of a set.
 fn left_by<L: Level>(level: &L, set: &[u64]) -> OptionSet
-    ensures { Largest (meaning level.now) (passing level.now) set.now result }
+    ensures { Largest (L.meaning level.now) (L.passing level.now) set.now result }
 {
     largest_good_subset(level, set)
 }
@@ -39,21 +39,21 @@ pub fn compare<A: Level, B: Level>(strong: &A, weak: &B, set: &[u64]) -> Compare
 
 // What arc leaves of a set.
 fn left_by_arc<S: RuleSource>(source: &S, set: &[u64]) -> OptionSet
-    ensures { Largest (meaning source.now) (ArcPasses (meaning source.now)) set.now result }
+    ensures { Largest (S.meaning source.now) (ArcPasses (S.meaning source.now)) set.now result }
 {
     left_by(&Arc { source }, set)
 }
 
 // What neighbourhood leaves of it.
 fn left_by_neighbourhood<S: RuleSource>(source: &S, set: &[u64]) -> OptionSet
-    ensures { Largest (meaning source.now) (NearPasses (meaning source.now)) set.now result }
+    ensures { Largest (S.meaning source.now) (NearPasses (S.meaning source.now)) set.now result }
 {
     left_by(&Neighbourhood { source }, set)
 }
 
 // What singleton over arc leaves of it.
 fn left_by_singleton<S: RuleSource>(source: &S, set: &[u64]) -> OptionSet
-    ensures { Largest (meaning source.now) (SinglePasses (meaning source.now) (ArcPasses (meaning source.now))) set.now result }
+    ensures { Largest (S.meaning source.now) (SinglePasses (S.meaning source.now) (ArcPasses (S.meaning source.now))) set.now result }
 {
     left_by(
         &Singleton {
@@ -74,11 +74,11 @@ pub struct ByLevel {
 // What arc, neighbourhood and singleton over arc leave of a set: the largest good subset at each, singleton
 // within neighbourhood and neighbourhood within arc.
 pub fn by_level<S: RuleSource>(source: &S, set: &[u64]) -> ByLevel
-    ensures arc { Largest (meaning source.now) (ArcPasses (meaning source.now)) set.now result.arc }
-    ensures neighbourhood { Largest (meaning source.now) (NearPasses (meaning source.now)) set.now result.neighbourhood }
-    ensures singleton { Largest (meaning source.now) (SinglePasses (meaning source.now) (ArcPasses (meaning source.now))) set.now result.singleton }
-    ensures within_arc { Sub (meaning source.now) result.neighbourhood result.arc }
-    ensures within_neighbourhood { Sub (meaning source.now) result.singleton result.neighbourhood }
+    ensures arc { Largest (S.meaning source.now) (ArcPasses (S.meaning source.now)) set.now result.arc }
+    ensures neighbourhood { Largest (S.meaning source.now) (NearPasses (S.meaning source.now)) set.now result.neighbourhood }
+    ensures singleton { Largest (S.meaning source.now) (SinglePasses (S.meaning source.now) (ArcPasses (S.meaning source.now))) set.now result.singleton }
+    ensures within_arc { Sub (S.meaning source.now) result.neighbourhood result.arc }
+    ensures within_neighbourhood { Sub (S.meaning source.now) result.singleton result.neighbourhood }
 {
     ByLevel {
         arc: left_by_arc(source, set),

@@ -10,7 +10,7 @@ use singleton::Singleton;
 
 // Every level is at least as strong as itself.
 pub fn reflexive<L: Level>(level: &L)
-    ensures { AtLeast (passing level.now) (passing level.now) }
+    ensures { AtLeast (L.passing level.now) (L.passing level.now) }
 {}
 
 // A level that is at least as strong as a second one is so as a third one that the second is at least
@@ -29,7 +29,7 @@ pub fn neighbourhood_over_arc<S: RuleSource, T: RuleSource>(
 
 // Singleton over any level is at least as strong as that level.
 pub fn singleton_over_below<L: Level>(singleton: &Singleton<L>)
-    ensures { AtLeast (SinglePasses (meaning singleton.now.below) (passing singleton.now.below)) (passing singleton.now.below) }
+    ensures { AtLeast (SinglePasses (L.meaning singleton.now.below) (L.passing singleton.now.below)) (L.passing singleton.now.below) }
 {}
 
 // Singleton over arc is at least as strong as neighbourhood over the same rules.

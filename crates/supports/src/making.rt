@@ -168,7 +168,7 @@ impl Supports {
         requires joined { (supports_meaning self.old).joined i j ≡ true }
         requires option { a < (supports_meaning self.old).count i }
         requires options { options ≡ (supports_meaning self.old).count j }
-        ensures { supports_meaning self.new ≡ with_part i j (permits rule.now) (λ x y. (x == a) && nat_lt y options) (supports_meaning self.old) }
+        ensures { supports_meaning self.new ≡ with_part i j (R.permits rule.now) (λ x y. (x == a) && nat_lt y options) (supports_meaning self.old) }
     {
         for b in 0..options {
             if !rule.allows(a, b) {
@@ -182,7 +182,7 @@ impl Supports {
         requires first { i < (supports_meaning self.old).lines }
         requires second { j < (supports_meaning self.old).lines }
         requires differ { i ≢ j }
-        ensures { supports_meaning self.new ≡ with_rule i j (permits rule.now) (supports_meaning self.old) }
+        ensures { supports_meaning self.new ≡ with_rule i j (R.permits rule.now) (supports_meaning self.old) }
     {
         let rows = self.counts[i];
         let options = self.counts[j];
@@ -194,7 +194,7 @@ impl Supports {
 
     // Adds a rule between the lines i and j, if they exist and differ.
     pub fn add<R: PairRule>(&mut self, i: usize, j: usize, rule: &R)
-        ensures { supports_meaning self.new ≡ ruled i j (permits rule.now) (supports_meaning self.old) }
+        ensures { supports_meaning self.new ≡ ruled i j (R.permits rule.now) (supports_meaning self.old) }
     {
         if names_two(self.lines(), i, j) {
             self.add_between(i, j, rule);

@@ -4,6 +4,8 @@
 // The file has whole numbers: how many lines, how many options each of them has, how many rules; then for
 // each rule its first line, its second line and one word for each option of the first line, whose bit b is
 // set if it goes with option b of the second.
+#![tactic(auto)]
+
 use bits::ones;
 use filters::outcome::Outcome;
 use filters::queue::by_queue;

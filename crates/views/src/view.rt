@@ -42,7 +42,7 @@ fn places(shown: &[usize], lines: u128) -> u128
 // The places whose lines are joined with the line at a place.
 fn joined_places<S: RuleSource>(source: &S, shown: &[usize], place: usize) -> u128
     requires { (length shown.now ≤ 128) × (place < length shown.now) }
-    ensures { (j : ℕ) → on result j ≡ (nat_lt j (length shown.now) && (meaning source.now).joined (slice_index shown.now place) (slice_index shown.now j)) }
+    ensures { (j : ℕ) → on result j ≡ (nat_lt j (length shown.now) && (S.meaning source.now).joined (slice_index shown.now place) (slice_index shown.now j)) }
 {
     places(shown, source.joined_lines(shown[place]))
 }
@@ -50,7 +50,7 @@ fn joined_places<S: RuleSource>(source: &S, shown: &[usize], place: usize) -> u1
 // The same for each place of the list.
 fn all_joined<S: RuleSource>(source: &S, shown: &[usize]) -> [u128; 128]
     requires { length shown.now ≤ 128 }
-    ensures { (k j : ℕ) → k < length shown.now → on (slice_index result k) j ≡ (nat_lt j (length shown.now) && (meaning source.now).joined (slice_index shown.now k) (slice_index shown.now j)) }
+    ensures { (k j : ℕ) → k < length shown.now → on (slice_index result k) j ≡ (nat_lt j (length shown.now) && (S.meaning source.now).joined (slice_index shown.now k) (slice_index shown.now j)) }
 {
     let mut joins = [0; 128];
     for k in 0..shown.len() {
@@ -64,7 +64,7 @@ fn joins_of<S: RuleSource>(source: &S, shown: &[usize]) -> [u128; 128]
     requires { length shown.now ≤ 128 }
     ensures real { (k j : ℕ) → on_words (length shown.now) result k j ≡ true → two_of (length shown.now) k j ≡ true }
     ensures mirrored { (k j : ℕ) → on_words (length shown.now) result k j ≡ on_words (length shown.now) result j k }
-    ensures view { shown_by (meaning source.now) shown.now (on_words (length shown.now) result) ≡ view_meaning (meaning source.now) shown.now }
+    ensures view { shown_by (S.meaning source.now) shown.now (on_words (length shown.now) result) ≡ view_meaning (S.meaning source.now) shown.now }
 {
     all_joined(source, shown)
 }
@@ -91,7 +91,7 @@ impl<'a, S: RuleSource> View<'a, S> {
 impl<'a, S: RuleSource + Drop> View<'a, S> {
     // The view of the listed lines of the source, or none where the list is empty or over 128 long.
     pub fn new(source: S, shown: &'a [usize]) -> Option<View<'a, S>>
-        ensures { MatchOption result ((length shown.now ≡ 0) ⊎ (128 < length shown.now)) (λ v. (v.source ≡ source) × (v.shown.now ≡ shown.now) × (0 < length shown.now) × (length shown.now ≤ 128) × (shown_by (meaning v.source) v.shown.now (on_words (length v.shown.now) v.joins) ≡ view_meaning (meaning source) shown.now)) }
+        ensures { MatchOption result ((length shown.now ≡ 0) ⊎ (128 < length shown.now)) (λ v. (v.source ≡ source) × (v.shown.now ≡ shown.now) × (0 < length shown.now) × (length shown.now ≤ 128) × (shown_by (S.meaning v.source) v.shown.now (on_words (length v.shown.now) v.joins) ≡ view_meaning (S.meaning source) shown.now)) }
     {
         if shown.len() == 0 || shown.len() > 128 {
             return None;

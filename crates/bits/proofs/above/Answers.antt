@@ -15,4 +15,4 @@ returns c b =
     let w = c.args.word in
     let n = c.args.n in
     let e : not (ltb b n) ≡ leb n b = grind (arith, nat_tests) in
-    ap (λ x. on x b) c.less-below.ensures ∙ on_out w (2 ^ n - 1) b ∙ ap (λ t. on w b && not t) (on_ones n b) ∙ ap (λ t. on w b && t) e
+    ap (λ x. on x b) c.less_below.ensures ∙ on_out w (2 ^ n - 1) b ∙ ap (λ t. on w b && not t) (on_ones n b) ∙ ap (λ t. on w b && t) e

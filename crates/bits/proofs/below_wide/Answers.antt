@@ -16,4 +16,4 @@ pub returns : goal.returns
 returns c b =
     let w = c.args.word in
     let n = c.args.n in
-    ap (λ x. on x b) c.kept-below-wide.ensures ∙ on_and w (2 ^ n - 1) b ∙ ap (λ t. on w b && t) (on_ones n b)
+    ap (λ x. on x b) c.kept_below_wide.ensures ∙ on_and w (2 ^ n - 1) b ∙ ap (λ t. on w b && t) (on_ones n b)

@@ -6,7 +6,7 @@ pub returns-then-from-ge64 : goal.returns-then-from-ge64
 returns-then-from-ge64 c b h = on_past c.args.word 64 b (omega arith) (omega arith)
 
 pub returns-then-b-lt64 : goal.returns-then-b-lt64
-returns-then-b-lt64 c = least_found 64 c.args.word c.args.from c.past-zeros-b.result (omega arith) c.past-zeros-b.ensures c.if-b-lt64.true
+returns-then-b-lt64 c = least_found 64 c.args.word c.args.from c.past_zeros-b.result (omega arith) c.past_zeros-b.ensures c.if-b-lt64.true
 
 pub returns-else-b-lt64 : goal.returns-else-b-lt64
-returns-else-b-lt64 c = least_none 64 c.args.word c.args.from c.past-zeros-b.result (omega arith) c.past-zeros-b.ensures c.if-b-lt64.false
+returns-else-b-lt64 c = least_none 64 c.args.word c.args.from c.past_zeros-b.result (omega arith) c.past_zeros-b.ensures c.if-b-lt64.false

@@ -6,7 +6,7 @@ pub returns-then-from-ge128 : goal.returns-then-from-ge128
 returns-then-from-ge128 c b h = on_past c.args.word 128 b (omega arith) (omega arith)
 
 pub returns-then-b-lt128 : goal.returns-then-b-lt128
-returns-then-b-lt128 c = least_found 128 c.args.word c.args.from c.past-zeros-wide-b.result (omega arith) c.past-zeros-wide-b.ensures c.if-b-lt128.true
+returns-then-b-lt128 c = least_found 128 c.args.word c.args.from c.past_zeros_wide-b.result (omega arith) c.past_zeros_wide-b.ensures c.if-b-lt128.true
 
 pub returns-else-b-lt128 : goal.returns-else-b-lt128
-returns-else-b-lt128 c = least_none 128 c.args.word c.args.from c.past-zeros-wide-b.result (omega arith) c.past-zeros-wide-b.ensures c.if-b-lt128.false
+returns-else-b-lt128 c = least_none 128 c.args.word c.args.from c.past_zeros_wide-b.result (omega arith) c.past_zeros_wide-b.ensures c.if-b-lt128.false

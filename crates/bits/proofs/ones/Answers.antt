@@ -13,4 +13,4 @@ pub returns : goal.returns
 returns c b =
     let n = c.args.n in
     let e : ltb b n ≡ (ltb b n && ltb b 64) = grind (arith, nat_tests) in
-    ap (λ x. on x b) c.bits-below.ensures ∙ on_ones n b ∙ e
+    ap (λ x. on x b) c.bits_below.ensures ∙ on_ones n b ∙ e

@@ -15,4 +15,4 @@ pub returns : goal.returns
 returns c q =
     let w = c.args.word in
     let b = c.args.b in
-    ap (λ x. on x q) c.kept-at.ensures ∙ on_and w (2 ^ b) q ∙ ap (λ t. on w q && t) (on_pow b q)
+    ap (λ x. on x q) c.kept_at.ensures ∙ on_and w (2 ^ b) q ∙ ap (λ t. on w q && t) (on_pow b q)

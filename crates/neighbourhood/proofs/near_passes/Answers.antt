@@ -27,7 +27,7 @@ returns-in-Some g c =
     let a = c.args.option in
     let n = c.looked-n.result.1 in
     let lines = c.looked-n.result.0 in
-    let h = c.held-words-words.result in
+    let h = c.held_words-words.result in
     let r = c.settles.new.words in
     let b = c.settles.result in
     let Run : Meaning → Type 0 = λ m. Largest m (ArcPasses m) h r × MatchBool b (Full m (ArcPasses m) r) (Empty m r) in
@@ -37,7 +37,7 @@ returns-in-Some g c =
     let listed : Lists (near m i) v = subst (λ k. Lists (near m i) (take k lines)) same c.looked-n.ensures.lists in
     let real : a < m.count i = omega arith in
     let here : In m s i a = (line_real m law i a real, real, ap (λ w. on w a) (sym c.word.ensures) ∙ sym c.has.ensures ∙ c.if-not-has.false) in
-    near_run m law s v h i a here listed c.held-words-words.ensures r run.0 b run.1
+    near_run m law s v h i a here listed c.held_words-words.ensures r run.0 b run.1
 
 -- there is a view, since the line itself is looked at
 pub returns-in-None : goal.returns-in-None

@@ -18,7 +18,7 @@ loop-i-preserved-in-Clean g c =
     let len : length (set c.loop-i.tickets i 0) ≡ 128 = search rules in (
       len,
       up_to_still c.loop-i.tickets i c.loop-i.last c.in-Some.ensures.0 c.loop-i.invariant.1,
-      queued_clean (g.L.Level.meaning x) (g.L.Level.passing x) c.args.set.now c.loop-i.set c.sweep-line.new.set c.loop-i.tickets
+      queued_clean (g.L.Level.meaning x) (g.L.Level.passing x) c.args.set.now c.loop-i.set c.sweep_line.new.set c.loop-i.tickets
           i c.in-Some.ensures.0 c.loop-i.invariant.2 (g.L.Level.touching x i i) c.in-Clean.ensures,
     )
 
@@ -39,7 +39,7 @@ loop-i-preserved g c =
     let len : length c.wake-last.new.tickets ≡ 128 = search rules in (
       len,
       c.wake-last.ensures.up_to,
-      queued_strike (g.L.Level.meaning x) (g.L.Level.passing x) c.args.set.now c.loop-i.set c.sweep-line.new.set c.loop-i.tickets
+      queued_strike (g.L.Level.meaning x) (g.L.Level.passing x) c.args.set.now c.loop-i.set c.sweep_line.new.set c.loop-i.tickets
           c.in-Some.i c.in-Some.ensures.0 c.loop-i.invariant.2 (g.L.Level.touching x) (g.met.L.Level.touch x)
           c.wake-last.new.tickets c.loop-i.last c.wake-last.result c.in-Struck.ensures c.wake-last.ensures,
     )
@@ -51,7 +51,7 @@ returns-in-Emptied g c =
     let line = c.in-Emptied.ensures in
     let q = c.loop-i.invariant.2 in
     record {
-      keeps = keeps_trans (g.L.Level.meaning x) (g.L.Level.passing x) c.args.set.now c.loop-i.set c.sweep-line.new.set q.keeps line.keeps;
+      keeps = keeps_trans (g.L.Level.meaning x) (g.L.Level.passing x) c.args.set.now c.loop-i.set c.sweep_line.new.set q.keeps line.keeps;
       line = c.in-Some.i;
       real = q.real c.in-Some.i c.in-Some.ensures.0;
       none = line.ended;
@@ -63,4 +63,4 @@ returns g c =
     let x = c.args.level.now in
     let q = c.loop-i.invariant.2 in
     settles (g.L.Level.meaning x) (g.L.Level.passing x) (g.met.L.Level.plans x) c.args.set.now c.loop-i.set q.keeps
-    (record { some = q.each; pass = λ i a h. q.clean i h.0 (c.in-default.ensures i) a h })
+    (record { some = q.each; pass = λ i a h. q.clean i h.0 (c.in_default.ensures i) a h })

@@ -16,9 +16,9 @@ loop-j-preserved g c =
     let within : j < length us = omega arith in
     elim c.if-wakes.branch [
       | then-wakes w ↦
-          let v = w.saturating-add-next.result in
+          let v = w.saturating_add-next.result in
           subst₂ (λ vs n. (n < 2 ^ 64) × Woken (j + 1) touched ts vs last n) (sym w.tickets-is) (sym w.next-is)
-          (w.saturating-add-next.type-inv, woken_add j touched ts us last next c.loop-j.invariant.1 v fits within (sym w.if-wakes.ensures) w.saturating-add-next.ensures)
+          (w.saturating_add-next.type_inv, woken_add j touched ts us last next c.loop-j.invariant.1 v fits within (sym w.if-wakes.ensures) w.saturating_add-next.ensures)
       | else-wakes w ↦
           subst₂ (λ vs n. (n < 2 ^ 64) × Woken (j + 1) touched ts vs last n) (sym w.tickets-is) (sym w.next-is)
           (fits, woken_skip j touched ts us last next c.loop-j.invariant.1 (sym w.if-wakes.ensures))

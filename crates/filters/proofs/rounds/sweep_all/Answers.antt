@@ -11,10 +11,10 @@ loop-i-preserved g c =
     let P = g.L.Level.passing x in
     let s = c.args.set.now in
     let r = c.loop-i.set in
-    let r' = c.sweep-line.new.set in
+    let r' = c.sweep_line.new.set in
     let n = c.loop-i.i in
     let self = g.L.Level.touching x n n in
-    elim c.match-sweep-line.branch [
+    elim c.match-sweep_line.branch [
       | in-Clean w ↦ subst (λ b. RoundLoop m P s r' b (n + 1)) (sym w.struck-is) (round_clean m P s self r r' c.loop-i.struck n c.loop-i.invariant w.in-Clean.ensures)
       | in-Struck w ↦ subst (λ b. RoundLoop m P s r' b (n + 1)) (sym w.struck-is) (round_strike m P s self r r' c.loop-i.struck n c.loop-i.invariant w.in-Struck.ensures)
     ]
@@ -26,6 +26,6 @@ returns-in-Emptied g c =
     let P = g.L.Level.passing c.args.level.now in
     let e = c.in-Emptied.ensures in
     record {
-      keeps = keeps_trans m P c.args.set.now c.loop-i.set c.sweep-line.new.set c.loop-i.invariant.keeps e.keeps;
+      keeps = keeps_trans m P c.args.set.now c.loop-i.set c.sweep_line.new.set c.loop-i.invariant.keeps e.keeps;
       ended = (c.loop-i.i, (omega arith), e.ended);
     }

@@ -9,8 +9,8 @@ returns g c =
     let P = g.L.Level.passing x in
     let limits = (g.met.L.Level.lawful x).limits in
     let u = c.args.set in
-    let rounds = c.by-rounds-rounds-outcome in
-    let queue = c.by-queue-queue-outcome in
+    let rounds = c.by_rounds-rounds_outcome in
+    let queue = c.by_queue-queue_outcome in
     record {
       agree = same_end m P u rounds.new.set queue.new.set rounds.result queue.result limits.some_line rounds.ensures queue.ensures;
       same = same_words_left m P u rounds.new.set queue.new.set rounds.result queue.result rounds.ensures queue.ensures;

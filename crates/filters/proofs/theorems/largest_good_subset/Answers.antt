@@ -10,7 +10,7 @@ returns g c =
     let s = c.args.set.now in
     let u = c.copied-left.result in
     record {
-      largest = largest_as m (g.L.Level.passing x) s u c.by-rounds.new.set
-          (same_words m (g.met.L.Level.lawful x).limits.few_lines u s c.copied-left.ensures) c.by-rounds.ensures.largest;
-      rest = λ i a h missing. c.by-rounds.ensures.rest i a missing ∙ ap (λ w. on w a) (c.copied-left.ensures i h);
+      largest = largest_as m (g.L.Level.passing x) s u c.by_rounds.new.set
+          (same_words m (g.met.L.Level.lawful x).limits.few_lines u s c.copied-left.ensures) c.by_rounds.ensures.largest;
+      rest = λ i a h missing. c.by_rounds.ensures.rest i a missing ∙ ap (λ w. on w a) (c.copied-left.ensures i h);
     }

@@ -2,8 +2,8 @@ use Rattle.std.proofs.Common.{arith}
 use Rattle.model.proofs.Facts.{support_few}
 use Rattle.levels.proofs.arc.supported.Goals as goal
 
-pub overflow-add-from : goal.overflow-add-from
-overflow-add-from g c =
+pub overflow_add-from : goal.overflow_add-from
+overflow_add-from g c =
     let x = c.args.source.now in
     let e = c.in-Some.ensures in
     omega (arith, support_few (g.S.RuleSource.meaning x) (g.S.RuleSource.lawful x) c.args.i c.args.a c.args.j c.in-Some.b e.1)

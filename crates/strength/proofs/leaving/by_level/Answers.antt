@@ -6,15 +6,15 @@ pub returns : goal.returns
 returns g c =
     let m = g.S.RuleSource.meaning c.args.source.now in
     let s = c.args.set.now in
-    let arc = c.left-by-arc in
-    let near = c.left-by-neighbourhood in
-    let single = c.left-by-singleton in
+    let arc = c.left_by_arc in
+    let near = c.left_by_neighbourhood in
+    let single = c.left_by_singleton in
     let Arcs = ArcPasses m in
     record {
       arc = arc.ensures;
       neighbourhood = near.ensures;
       singleton = single.ensures;
-      within-arc = stronger_leaves m (NearPasses m) Arcs (near_at_least m) s near.result arc.result near.ensures arc.ensures;
-      within-neighbourhood =
+      within_arc = stronger_leaves m (NearPasses m) Arcs (near_at_least m) s near.result arc.result near.ensures arc.ensures;
+      within_neighbourhood =
           stronger_leaves m (SinglePasses m Arcs) (NearPasses m) (single_over_arc m Arcs (at_least_refl Arcs)) s single.result near.result single.ensures near.ensures;
     }

@@ -8,10 +8,10 @@ returns g c =
     let a = c.args.strong.now in
     let b = c.args.weak.now in
     let P = g.A.Level.passing a in
-    let r = c.left-by.result in
+    let r = c.left_by.result in
     record {
-      strong = c.left-by.ensures;
-      weak = c.left-by-2.ensures;
-      subset = λ same strong. stronger_leaves (g.B.Level.meaning b) P (g.B.Level.passing b) strong c.args.set.now r c.left-by-2.result
-          (subst (λ m. Largest m P c.args.set.now r) same c.left-by.ensures) c.left-by-2.ensures;
+      strong = c.left_by.ensures;
+      weak = c.left_by-2.ensures;
+      subset = λ same strong. stronger_leaves (g.B.Level.meaning b) P (g.B.Level.passing b) strong c.args.set.now r c.left_by-2.result
+          (subst (λ m. Largest m P c.args.set.now r) same c.left_by.ensures) c.left_by-2.ensures;
     }

@@ -21,35 +21,35 @@ returns-then-records-gt2048 c =
     let ws = c.args.words.now in
     let there = table_fault cs rs ws in
     let k2 = clear_more there 1 (clear_start there) (λ p. grind (arith, nat_tests)) in
-    let k3 = clear_more there 2 k2 (λ p. c.in-default.ensures p zero-le) in
+    let k3 = clear_more there 2 k2 (λ p. c.in_default.ensures p zero-le) in
     let k4 = clear_more there 3 k3 (λ p. refl) in
     first_of there 4 refl refl k4 (lt-ltb 2048 (length rs) c.if-records-gt2048.true)
 
-pub returns-in-Some-first-with : goal.returns-in-Some-first-with
-returns-in-Some-first-with c =
+pub returns-in-Some-first_with : goal.returns-in-Some-first_with
+returns-in-Some-first_with c =
     let cs = c.args.counts.now in
     let rs = c.args.records.now in
     let ws = c.args.words.now in
     let there = table_fault cs rs ws in
     let k2 = clear_more there 1 (clear_start there) (λ p. grind (arith, nat_tests)) in
-    let k3 = clear_more there 2 k2 (λ p. c.in-default.ensures p zero-le) in
+    let k3 = clear_more there 2 k2 (λ p. c.in_default.ensures p zero-le) in
     let k4 = clear_more there 3 k3 (λ p. refl) in
     let k5 = clear_more there 4 k4 (λ p. le-ltb 2048 (length rs) c.if-records-gt2048.false) in
-    first_at there 5 c.in-Some-first-with.r refl refl k5 c.in-Some-first-with.ensures
+    first_at there 5 c.in-Some-first_with.r refl refl k5 c.in-Some-first_with.ensures
 
-pub returns-in-Some-first-with-2 : goal.returns-in-Some-first-with-2
-returns-in-Some-first-with-2 c =
+pub returns-in-Some-first_with-2 : goal.returns-in-Some-first_with-2
+returns-in-Some-first_with-2 c =
     let cs = c.args.counts.now in
     let rs = c.args.records.now in
     let ws = c.args.words.now in
     let there = table_fault cs rs ws in
     let k2 = clear_more there 1 (clear_start there) (λ p. grind (arith, nat_tests)) in
-    let k3 = clear_more there 2 k2 (λ p. c.in-default.ensures p zero-le) in
+    let k3 = clear_more there 2 k2 (λ p. c.in_default.ensures p zero-le) in
     let k4 = clear_more there 3 k3 (λ p. refl) in
     let k5 = clear_more there 4 k4 (λ p. le-ltb 2048 (length rs) c.if-records-gt2048.false) in
-    let k6 = clear_more there 5 k5 (λ p. c.in-default-first-with.ensures p zero-le) in
+    let k6 = clear_more there 5 k5 (λ p. c.in_default-first_with.ensures p zero-le) in
     let k8 = clear_more there 7 (clear_more there 6 k6 (λ p. refl)) (λ p. refl) in
-    first_at there 8 c.in-Some-first-with-2.r refl refl k8 c.in-Some-first-with-2.ensures
+    first_at there 8 c.in-Some-first_with-2.r refl refl k8 c.in-Some-first_with-2.ensures
 
 pub returns : goal.returns
 returns c =
@@ -58,10 +58,10 @@ returns c =
     let ws = c.args.words.now in
     let there = table_fault cs rs ws in
     let k2 = clear_more there 1 (clear_start there) (λ p. grind (arith, nat_tests)) in
-    let k3 = clear_more there 2 k2 (λ p. c.in-default.ensures p zero-le) in
+    let k3 = clear_more there 2 k2 (λ p. c.in_default.ensures p zero-le) in
     let k4 = clear_more there 3 k3 (λ p. refl) in
     let k5 = clear_more there 4 k4 (λ p. le-ltb 2048 (length rs) c.if-records-gt2048.false) in
-    let k6 = clear_more there 5 k5 (λ p. c.in-default-first-with.ensures p zero-le) in
+    let k6 = clear_more there 5 k5 (λ p. c.in_default-first_with.ensures p zero-le) in
     let k8 = clear_more there 7 (clear_more there 6 k6 (λ p. refl)) (λ p. refl) in
-    let k9 = clear_more there 8 k8 (λ p. c.in-default-first-with-2.ensures p zero-le) in
+    let k9 = clear_more there 8 k8 (λ p. c.in_default-first_with-2.ensures p zero-le) in
     clear_all there (clear_more there 9 k9 (λ p. refl)) refl

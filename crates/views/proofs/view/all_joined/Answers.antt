@@ -7,10 +7,10 @@ pub loop-k-preserved : goal.loop-k-preserved
 loop-k-preserved g c =
     let joins = c.loop-k.joins in
     let k = c.loop-k.k in
-    let w = c.joined-places.result in
+    let w = c.joined_places.result in
     let inv = c.loop-k.invariant in
     let lt : k < length joins = omega arith in (
       length-set joins k w ∙ inv.0,
       below_more _ _ (λ p h j. ap (λ x. on x j) (get_or-set_other joins k p w 0 (λ e. omega arith)) ∙ inv.1 p h j)
-          (λ j. ap (λ x. on x j) (get_or-set_same joins k w 0 lt) ∙ c.joined-places.ensures j),
+          (λ j. ap (λ x. on x j) (get_or-set_same joins k w 0 lt) ∙ c.joined_places.ensures j),
     )

@@ -7,6 +7,6 @@ returns g c =
     let m = g.S.RuleSource.meaning x in
     let law = g.S.RuleSource.lawful x in
     let v = c.args.shown.now in
-    let ws = c.all-joined.result in
-    let is = c.all-joined.ensures in
+    let ws = c.all_joined.result in
+    let is = c.all_joined.ensures in
     record { real = words_two m law v ws is; mirrored = words_same m law v ws is; view = words_view m law v ws is }

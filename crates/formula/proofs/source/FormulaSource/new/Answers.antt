@@ -19,7 +19,7 @@ returns-in-Ok-made c =
     let there = formula_fault ls vs rs in
     let m = formula_meaning ls vs rs in
     let made = supports_meaning c.in-Ok-made.words in
-    elim c.match-check-formula.branch [
+    elim c.match-check_formula.branch [
       | in-Ok w ↦ makes_sound there m made w.in-Ok.ensures
           (IfOk-at_ok (λ s. supports_meaning s ≡ fold (adding_if (λ (x : RuleRecord). x.first) (λ (x : RuleRecord). x.second) (rule_allows ls vs)) (unruled (counts_of ls)) rs)
           (sym w.made-is ∙ c.in-Ok-made.is) w.compile-made.ensures ∙ all_rules ls vs rs w.in-Ok.ensures)

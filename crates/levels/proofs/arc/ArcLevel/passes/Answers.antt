@@ -2,8 +2,8 @@ use Rattle.std.proofs.Common.{arith}
 use Rattle.model.proofs.Facts.{joined_few}
 use Rattle.levels.proofs.arc.ArcLevel.passes.Goals as goal
 
-pub overflow-add-from : goal.overflow-add-from
-overflow-add-from g c =
+pub overflow_add-from : goal.overflow_add-from
+overflow_add-from g c =
     let x = c.args.self.now.source in
     let e = c.in-Some.ensures in
     omega (arith, joined_few (g.S.RuleSource.meaning x) (g.S.RuleSource.lawful x) c.args.line c.in-Some.j e.1)

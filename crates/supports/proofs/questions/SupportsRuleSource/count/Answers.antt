@@ -4,4 +4,4 @@ use Rattle.supports.proofs.questions.SupportsRuleSource.count.Goals as goal
 
 pub returns : goal.returns
 unfolding words_meaning
-returns c = c.item-or.ensures ∙ ap (λ xs. get_or xs c.args.line 0) c.deref.ensures.value
+returns c = c.item_or.ensures ∙ ap (λ xs. get_or xs c.args.line 0) c.deref.ensures.value

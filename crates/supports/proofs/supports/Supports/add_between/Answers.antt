@@ -23,9 +23,9 @@ index-options-requires g c = omega (arith, c.requires.second, c.args.self.now.co
 pub loop-a-init : goal.loop-a-init
 loop-a-init g c = rows_start c.args.i c.args.j (g.R.PairRule.permits c.args.rule.now) (supports_meaning c.join.new.self) _
 
-pub add-row-requires : goal.add-row-requires
+pub add_row-requires : goal.add_row-requires
 unfolding words_meaning
-add-row-requires g c =
+add_row-requires g c =
     let s = c.args.self.now in
     let i = c.args.i in
     let j = c.args.j in
@@ -43,7 +43,7 @@ add-row-requires g c =
 pub loop-a-preserved : goal.loop-a-preserved
 loop-a-preserved g c =
     rows_step c.args.i c.args.j (g.R.PairRule.permits c.args.rule.now) (supports_meaning c.join.new.self) c.loop-a.a _
-    (supports_meaning c.loop-a.self) (supports_meaning c.add-row.new.self) c.loop-a.invariant c.add-row.ensures
+    (supports_meaning c.loop-a.self) (supports_meaning c.add_row.new.self) c.loop-a.invariant c.add_row.ensures
 
 pub returns : goal.returns
 unfolding words_meaning

@@ -21,22 +21,22 @@ known s i a j b jn ha hb =
     let y : b < s.width = omega (arith, sized.counts_le j, p.b_lt) in
     record { pair = p; wide = (x, y) }
 
-pub place-of-there-requires : goal.place-of-there-requires
-place-of-there-requires c =
+pub place_of-there-requires : goal.place_of-there-requires
+place_of-there-requires c =
     let k = known c.args.self.now c.args.i c.args.a c.args.j c.args.b c.requires.joined c.requires.first c.requires.second in
     record { first = k.pair.i_lt; second = k.pair.j_lt; option = k.wide.0 }
 
-pub place-of-back-requires : goal.place-of-back-requires
-place-of-back-requires c =
+pub place_of-back-requires : goal.place_of-back-requires
+place_of-back-requires c =
     let k = known c.args.self.now c.args.i c.args.a c.args.j c.args.b c.requires.joined c.requires.first c.requires.second in
     record { first = k.pair.j_lt; second = k.pair.i_lt; option = k.wide.1 }
 
 pub clear-requires-2 : goal.clear-requires-2
 clear-requires-2 c =
     let ws = vec_items c.args.self.now.words in
-    let at = c.place-of-there.result in
+    let at = c.place_of-there.result in
     let len = ap length c.clear.ensures ∙ length-set ws at (cleared (get_or ws at 0) c.args.b) in
-    omega (arith, c.place-of-back.ensures.inside, len, c.args.self.now.words.ok.0, c.clear.new.words.ok.0)
+    omega (arith, c.place_of-back.ensures.inside, len, c.args.self.now.words.ok.0, c.clear.new.words.ok.0)
 
 made : (s : Supports) (i a j b there back : ℕ) (once twice : List ℕ) → (supports_meaning s).joined i j ≡ true → a < (supports_meaning s).count i → b < (supports_meaning s).count j
     → there ≡ place (length (vec_items s.counts)) s.width i a j → back ≡ place (length (vec_items s.counts)) s.width j b i
@@ -48,14 +48,13 @@ made s i a j b there back once twice jn ha hb t u d e =
     (e ∙ ap (λ x. clear_at x back a) d ∙ ap (λ x. clear_at (clear_at (vec_items s.words) x b) back a) t
     ∙ ap (λ x. clear_at (clear_at (vec_items s.words) (place n s.width i a j) b) x a) u)
 
-pub invariant-of-self : goal.invariant-of-self
-invariant-of-self c = (
-  ∣ (made c.args.self.now c.args.i c.args.a c.args.j c.args.b c.place-of-there.result c.place-of-back.result _ _ c.requires.joined c.requires.first c.requires.second
-      c.place-of-there.ensures.value c.place-of-back.ensures.value c.clear.ensures c.clear-2.ensures).compiled ∣₁,
-  tt,
-)
+pub invariant_of-self : goal.invariant_of-self
+invariant_of-self c = record {
+  good = ∣ (made c.args.self.now c.args.i c.args.a c.args.j c.args.b c.place_of-there.result c.place_of-back.result _ _ c.requires.joined c.requires.first c.requires.second
+      c.place_of-there.ensures.value c.place_of-back.ensures.value c.clear.ensures c.clear-2.ensures).compiled ∣₁;
+}
 
 pub returns : goal.returns
 returns c =
-    (made c.args.self.now c.args.i c.args.a c.args.j c.args.b c.place-of-there.result c.place-of-back.result _ _ c.requires.joined c.requires.first c.requires.second
-    c.place-of-there.ensures.value c.place-of-back.ensures.value c.clear.ensures c.clear-2.ensures).means
+    (made c.args.self.now c.args.i c.args.a c.args.j c.args.b c.place_of-there.result c.place_of-back.result _ _ c.requires.joined c.requires.first c.requires.second
+    c.place_of-there.ensures.value c.place_of-back.ensures.value c.clear.ensures c.clear-2.ensures).means

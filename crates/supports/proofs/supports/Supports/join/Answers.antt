@@ -33,9 +33,9 @@ unfolding words_meaning
 made s i j once twice h g ne d e =
     join_made (vec_items s.counts) s.width (vec_items s.joins) (vec_items s.words) twice i j (held s) h g ne (e ∙ ap (λ x. mark_at x j i) d)
 
-pub invariant-of-self : goal.invariant-of-self
-invariant-of-self c =
-    (∣ (made c.args.self.now c.args.i c.args.j _ _ c.requires.first c.requires.second c.requires.differ c.mark.ensures c.mark-2.ensures).compiled ∣₁, tt)
+pub invariant_of-self : goal.invariant_of-self
+invariant_of-self c =
+    record { good = ∣ (made c.args.self.now c.args.i c.args.j _ _ c.requires.first c.requires.second c.requires.differ c.mark.ensures c.mark-2.ensures).compiled ∣₁ }
 
 pub returns : goal.returns
 returns c =

@@ -5,4 +5,4 @@ use Rattle.supports.proofs.supports.Supports.joins.Goals as goal
 
 pub returns : goal.returns
 returns c j =
-    ap (λ w. on w j) (c.item-or.ensures ∙ ap (λ xs. get_or xs c.args.i 0) c.deref.ensures.value) ∙ joins_bits c.args.self.now c.args.i j
+    ap (λ w. on w j) (c.item_or.ensures ∙ ap (λ xs. get_or xs c.args.i 0) c.deref.ensures.value) ∙ joins_bits c.args.self.now c.args.i j

@@ -14,15 +14,14 @@ opened cs given width joins words ok e le small ej len ew =
     subst (λ xs. Made xs width joins words (no_rules given)) (sym e)
     (none_made given width joins words (ltb-true 0 (length given) p.0) (leb-true (length given) 128 q.0) q.1 le small ej len ew)
 
-pub invariant-of-result : goal.invariant-of-result
-invariant-of-result c = (
-  ∣ (opened (vec_items c.in-ok-counts.counts) c.args.counts.now c.widest-width.result (vec_items c.in-ok-joins.joins) (vec_items c.in-ok-words.words)
-      c.requires c.in-ok-counts.ensures.items c.widest-width.ensures.covers c.widest-width.ensures.small
-      (c.in-ok-joins.ensures.items-if-clones-equal (λ y e. e)) (sym c.in-ok-words.words.ok.0 ∙ c.in-ok-words.ensures.sized) c.in-ok-words.ensures.words).compiled ∣₁,
-  tt,
-)
+pub invariant_of-result : goal.invariant_of-result
+invariant_of-result c = record {
+  good = ∣ (opened (vec_items c.in_ok-counts.counts) c.args.counts.now c.widest-width.result (vec_items c.in_ok-joins.joins) (vec_items c.in_ok-words.words)
+      c.requires c.in_ok-counts.ensures.items c.widest-width.ensures.covers c.widest-width.ensures.small
+      (c.in_ok-joins.ensures.items_if_clones_equal (λ y e. e)) (sym c.in_ok-words.words.ok.0 ∙ c.in_ok-words.ensures.sized) c.in_ok-words.ensures.words).compiled ∣₁;
+}
 
 pub returns : goal.returns
-returns c = (opened (vec_items c.in-ok-counts.counts) c.args.counts.now c.widest-width.result (vec_items c.in-ok-joins.joins) (vec_items c.in-ok-words.words)
-    c.requires c.in-ok-counts.ensures.items c.widest-width.ensures.covers c.widest-width.ensures.small
-    (c.in-ok-joins.ensures.items-if-clones-equal (λ y e. e)) (sym c.in-ok-words.words.ok.0 ∙ c.in-ok-words.ensures.sized) c.in-ok-words.ensures.words).means
+returns c = (opened (vec_items c.in_ok-counts.counts) c.args.counts.now c.widest-width.result (vec_items c.in_ok-joins.joins) (vec_items c.in_ok-words.words)
+    c.requires c.in_ok-counts.ensures.items c.widest-width.ensures.covers c.widest-width.ensures.small
+    (c.in_ok-joins.ensures.items_if_clones_equal (λ y e. e)) (sym c.in_ok-words.words.ok.0 ∙ c.in_ok-words.ensures.sized) c.in_ok-words.ensures.words).means

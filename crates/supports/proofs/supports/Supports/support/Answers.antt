@@ -14,8 +14,8 @@ returns-then-i-lines c b =
       | then-i-lines-via-else-i-lines+else-j-lines+then-a-self w ↦ omega (arith, w.if-a-self.true)
     ])
 
-pub place-of-requires : goal.place-of-requires
-place-of-requires c =
+pub place_of-requires : goal.place_of-requires
+place_of-requires c =
     let s = c.args.self.now in
     record { first = omega (arith, s.counts.ok.0); second = omega (arith, s.counts.ok.0); option = omega arith }
 
@@ -24,6 +24,6 @@ returns c b =
     let s = c.args.self.now in
     let i_lt : c.args.i < length (vec_items s.counts) = omega (arith, s.counts.ok.0) in
     let j_lt : c.args.j < length (vec_items s.counts) = omega (arith, s.counts.ok.0) in
-    ap (λ w. on w b) (get_or_read_under (vec_items s.words) c.place-of.result (vec_len s.words) c.index.result.now 0 c.index.ensures c.place-of.ensures.inside s.words.ok.0
-    ∙ ap (λ x. get_or (vec_items s.words) x 0) c.place-of.ensures.value)
+    ap (λ w. on w b) (get_or_read_under (vec_items s.words) c.place_of.result (vec_len s.words) c.index.result.now 0 c.index.ensures c.place_of.ensures.inside s.words.ok.0
+    ∙ ap (λ x. get_or (vec_items s.words) x 0) c.place_of.ensures.value)
     ∙ support_bits s c.args.i c.args.a c.args.j b i_lt j_lt c.if-a-self.false

@@ -19,7 +19,7 @@ returns-in-Ok-made c =
     let there = table_fault cs rs ws in
     let m = table_meaning cs rs ws in
     let made = supports_meaning c.in-Ok-made.words in
-    elim c.match-check-table.branch [
+    elim c.match-check_table.branch [
       | in-Ok w ↦ makes_sound there m made w.in-Ok.ensures
           (IfOk-at_ok (λ s. supports_meaning s ≡ fold (adding_if (λ (x : TableRecord). x.first) (λ (x : TableRecord). x.second) (record_allows ws)) (unruled cs) rs)
           (sym w.made-is ∙ c.in-Ok-made.is) w.compile-made.ensures ∙ all_records cs rs ws w.in-Ok.ensures)

@@ -9,7 +9,7 @@ pub returns-then-joined : goal.returns-then-joined
 returns-then-joined g c =
     let x = c.args.self.now in
     let v = x.shown.now in
-    subst (λ t. Least t c.args.from c.next-support.result)
+    subst (λ t. Least t c.args.from c.next_support.result)
     (shown_row (g.S.RuleSource.meaning x.source) (g.S.RuleSource.lawful x.source) v (on_words (length v) x.joins) x.real c.args.i c.args.a c.args.j
     c.line.result c.line-then-joined.result (sym c.joined.ensures ∙ c.if-joined.true) c.line.ensures c.line-then-joined.ensures)
-    c.next-support.ensures
+    c.next_support.ensures
