@@ -1,5 +1,5 @@
 -- The bits of a word.
-use Rattle.std.specs.Prelude.{ℕ, ◌-◌, ◌/◌, ◌%◌, ◌^◌, Bool, ◌==◌, bit_and, bit_or, bit_xor}
+use Rattle.std.specs.Prelude.{ℕ, ◌/◌, ◌%◌, ◌^◌, Bool, ◌==◌, bit_and, bit_or, bit_xor}
 
 -- bit b of the word w, 0 or 1
 abbrev pub bit : ℕ → ℕ → ℕ

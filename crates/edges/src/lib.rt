@@ -11,4 +11,4 @@ mod formulas;
 #[cfg(test)]
 mod questions;
 #[cfg(test)]
-mod tables;
+mod table_parts;

@@ -1,5 +1,5 @@
 -- What testing and striking leaves of a set s, called r.
-use Rattle.std.specs.Prelude.{◌≡◌, ℕ, ◌<◌, Bool, true, false, List, set, sum, ◌≢◌, slice_index, slice_set}
+use Rattle.std.specs.Prelude.{◌≡◌, ℕ, ◌<◌, Bool, true, false, List, sum, ◌≢◌, slice_index, slice_set}
 use Rattle.bits.specs.Bits.{cleared}
 use Rattle.model.specs.Meaning.{Meaning}
 use Rattle.model.specs.Sets.{In, Less, SomeOn, NoneOn, EachLine}

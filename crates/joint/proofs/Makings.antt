@@ -1,5 +1,5 @@
 -- What a checked joint source means.
-use Rattle.std.proofs.Common.{◌≡◌, Bool, true, false, eqb, MatchBool, refl}
+use Rattle.std.proofs.Common.{Bool, true, false, eqb, MatchBool, refl}
 use Rattle.std.proofs.lemmas.Bool.{eqb-true, not-false}
 use Rattle.model.specs.Meaning.{Meaning, Lawful}
 use Rattle.model.specs.Joints.{both, joint}

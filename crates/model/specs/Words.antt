@@ -1,6 +1,6 @@
 -- A source compiled into words: for each option and each other line one word, whose bit b stands for
 -- option b of that line.
-use Rattle.std.specs.Prelude.{◌≡◌, ℕ, ◌+◌, ◌*◌, ◌/◌, ◌%◌, ◌<◌, ◌≤◌, true, ◌&&◌, List, length, set, slice_index, slice_set}
+use Rattle.std.specs.Prelude.{◌≡◌, ℕ, ◌+◌, ◌*◌, ◌/◌, ◌%◌, ◌<◌, ◌≤◌, true, ◌&&◌, List, length, slice_index, slice_set}
 use Rattle.bits.specs.Bits.{on, cleared, marked}
 use Rattle.model.specs.Meaning.{Meaning, Lawful}
 use Rattle.model.specs.Making.{two_lines, two_options}

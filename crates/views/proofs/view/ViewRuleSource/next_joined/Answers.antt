@@ -14,4 +14,4 @@ pub returns-then-i-self : goal.returns-then-i-self
 returns-then-i-self g c =
     let x = c.args.self.now in
     least_same (on (slice_index x.joins c.args.i)) (on_words (length x.shown.now) x.joins c.args.i)
-        (λ n. sym (ap (λ t. t && on (slice_index x.joins c.args.i) n) (lt-ltb c.args.i (length x.shown.now) c.if-i-self.true))) c.args.from c.next_one_wide.result c.next_one_wide.ensures
+    (λ n. sym (ap (λ t. t && on (slice_index x.joins c.args.i) n) (lt-ltb c.args.i (length x.shown.now) c.if-i-self.true))) c.args.from c.next_one_wide.result c.next_one_wide.ensures
