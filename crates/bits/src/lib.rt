@@ -1,7 +1,7 @@
 // Bits of words, for words of 64 bits and, where there is one for each of 128 lines, of 128 bits.
 #![tactic(auto)]
 
-ghost use Rattle.std.specs.Prelude.{◌≡◌, ℕ, ◌+◌, ◌-◌, ◌/◌, ◌^◌, ◌<◌, ◌&&◌, ◌||◌, ltb, if◌then◌else◌, MatchOption, ◌==◌, bit_and, bit_or, bit_xor, nat_le, nat_lt};
+ghost use Rattle.std.specs.Prelude.{◌≡◌, ℕ, ◌+◌, ◌-◌, ◌/◌, ◌^◌, ◌<◌, ◌&&◌, ◌||◌, if◌then◌else◌, MatchOption, ◌==◌, bit_and, bit_or, bit_xor, nat_le, nat_lt};
 ghost use Rattle.std.specs.Int.Count.{count_trailing_zeros};
 ghost use Rattle.bits.specs.Bits.{cleared, marked, on};
 ghost use Rattle.bits.specs.Least.{Least};
@@ -185,7 +185,7 @@ pub fn below_wide(word: u128, n: usize) -> u128
 
 // The wide word with bit b; past its end there is no place for one.
 pub fn with_wide(word: u128, b: usize) -> u128
-    ensures { result ≡ (if ltb b 128 then marked word b else word) }
+    ensures { result ≡ (if nat_lt b 128 then marked word b else word) }
 {
     if b >= 128 {
         return word;

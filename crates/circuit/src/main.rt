@@ -8,7 +8,6 @@ use formula::records::{LineRecord, RuleRecord};
 use formula::source::FormulaSource;
 use kinds::kind::Kind;
 use levels::arc::Arc;
-use levels::level::Level;
 use rules::fault::SourceFault;
 use rules::source::RuleSource;
 use std::alloc::Global;

@@ -7,7 +7,6 @@ use formula::source::FormulaSource;
 use levels::arc::Arc;
 use levels::level::Level;
 use neighbourhood::Neighbourhood;
-use rules::source::RuleSource;
 use singleton::Singleton;
 use std::process::Abort;
 use std::test::Fail;

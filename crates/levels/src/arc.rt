@@ -2,7 +2,6 @@
 ghost use Rattle.model.specs.Passing.{ArcPasses, Supported};
 ghost use Rattle.std.specs.Prelude.{Decides};
 ghost use Rattle.model.proofs.Arcs.{arc_monotone, arc_plan, arc_touch};
-ghost use Rattle.std.proofs.Common.{rules};
 
 use crate::level::Level;
 use crate::words::word;
@@ -41,7 +40,7 @@ impl<S: RuleSource> Level for Arc<S> {
 
     ghost lawful = { λ x. S.RuleSource.lawful x.source };
 
-    ghost within = { Prim.search rules };
+    ghost within = { λ x s i a p. p.here };
 
     ghost monotone = { λ x. arc_monotone (S.RuleSource.meaning x.source) };
 

@@ -8,7 +8,6 @@ ghost use Rattle.model.specs.Passing.{NearPasses, near, stays};
 ghost use Rattle.model.specs.Sets.{Empty, Full, Largest};
 ghost use Rattle.model.specs.Views.{Lists};
 ghost use Rattle.model.proofs.Nears.{near_monotone, near_plan, near_touch};
-ghost use Rattle.std.proofs.Common.{rules};
 
 use bits::{either_wide, has, only, pop_wide, with_wide};
 use filters::outcome::Outcome;
@@ -126,7 +125,7 @@ impl<S: RuleSource> Level for Neighbourhood<S> {
 
     ghost lawful = { λ x. S.RuleSource.lawful x.source };
 
-    ghost within = { Prim.search rules };
+    ghost within = { λ x s i a p. p.here };
 
     ghost monotone = { λ x. near_monotone (S.RuleSource.meaning x.source) };
 

@@ -7,7 +7,6 @@ ghost use Rattle.bits.specs.Bits.{on};
 ghost use Rattle.model.specs.Passing.{SinglePasses, single_touching, stays};
 ghost use Rattle.singleton.specs.Trials.{Tried};
 ghost use Rattle.model.proofs.Singles.{single_monotone, single_plan, single_touch, single_real};
-ghost use Rattle.std.proofs.Common.{rules};
 
 use bits::{has, only};
 use filters::outcome::Outcome;
@@ -67,7 +66,7 @@ impl<L: Level> Level for Singleton<L> {
 
     ghost lawful = { λ x. L.Level.lawful x.below };
 
-    ghost within = { Prim.search rules };
+    ghost within = { λ x s i a p. p.here };
 
     ghost monotone = { λ x. single_monotone (L.Level.meaning x.below) (L.Level.passing x.below) };
 

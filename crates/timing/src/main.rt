@@ -11,7 +11,6 @@ use filters::outcome::Outcome;
 use filters::queue::by_queue;
 use filters::theorems::OptionSet;
 use levels::arc::Arc;
-use levels::level::Level;
 use rules::fault::SourceFault;
 use rules::parts::item_from;
 use rules::source::RuleSource;

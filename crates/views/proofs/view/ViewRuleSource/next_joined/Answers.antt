@@ -5,7 +5,7 @@ use Rattle.bits.specs.Least.{Least}
 use Rattle.model.specs.Views.{on_words}
 use Rattle.views.proofs.view.ViewRuleSource.next_joined.Goals as goal
 
--- of tests that agree
+-- what is the least to pass one test is so for another that agrees with it
 least_same : (f h : ℕ → Bool) → ((n : ℕ) → f n ≡ h n) → (from : ℕ) (r : Option ℕ) → Least f from r → Least h from r
 least_same f h e from None p = λ n l. sym (e n) ∙ p n l
 least_same f h e from (Some k) p = (p.0, sym (e k) ∙ p.1, λ n l m. sym (e n) ∙ p.2 n l m)
