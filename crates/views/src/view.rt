@@ -80,6 +80,17 @@ fn next_below(word: u64, from: usize, limit: usize) -> Option<usize>
 }
 
 impl<'a, S: RuleSource> View<'a, S> {
+    // The least place, at or above from, that is joined with a place.
+    fn next_place(&self, place: usize, from: usize) -> Option<usize>
+        ensures { Least (on_words (length self.now.shown.now) self.now.joins place) from result }
+    {
+        if place < self.shown.len() {
+            next_one_wide(self.joins[place], from)
+        } else {
+            None
+        }
+    }
+
     // The line that is shown at a place, and line 0 where there is none.
     fn line(&self, place: usize) -> usize
         ensures { result ≡ slice_index self.now.shown.now place }
@@ -148,11 +159,7 @@ impl<'a, S: RuleSource> RuleSource for View<'a, S> {
     }
 
     fn next_joined(&self, i: usize, from: usize) -> Option<usize> {
-        if i < self.shown.len() {
-            next_one_wide(self.joins[i], from)
-        } else {
-            None
-        }
+        self.next_place(i, from)
     }
 
     fn next_standing(
