@@ -19,7 +19,7 @@ DEFINES = re.compile(
 )
 BINDS = re.compile(r"[({]((?:[^\s(){};,.:]+\s+)*[^\s(){};,.:]+)\s*:(?!=)|λ\s+([^.(){}]*)\.|\blet\s+([^\s(){};,.:=]+)")
 IMPORT = re.compile(r"use\s+(Rattle\.)?([\w.]+)\.\{([^}]*)\}")
-# names whose new spelling would fall together with another one of a file that has both
+# names that cite a word that the library no longer has
 OTHER = {"getD-zeros": "index_zeros"}
 # bound variables that the patterns below miss
 FURTHER = {"allowed-sym", "joined-sym", "on-n"}

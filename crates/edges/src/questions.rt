@@ -1,4 +1,4 @@
-// The questions of the three sources.
+// The questions of the three sources and of a view.
 use formula::records::{LineRecord, RuleRecord};
 use formula::source::FormulaSource;
 use joint::source::Joint;

@@ -51,7 +51,7 @@ module _ (m : Meaning) (P : List ℕ → ℕ → ℕ → Type 0) where
           (λ ne. absurd (both_ways (single_touching m i j) off (two_true m.lines i j (subst (λ n. n < m.lines) ki p.0) here.0 ne)))
           (cases_eq i j)
 
-  -- The literal reading: r is the largest good subset of h, which is s with line i held to option a. If
+  -- By the largest good subset: r is that of h, which is s with line i held to option a. If
   -- the option passes, each line has an option in r, and if there is any option in r, it passes.
   module _ (s h r : List ℕ) (i a : ℕ) (held : Held m i a s h) (big : Largest m P h r) where
     pub single_fills : SinglePasses m P s i a → EachLine m r
