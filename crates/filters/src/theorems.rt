@@ -1,7 +1,7 @@
 // What holds of the largest good subset at every level.
 ghost use Rattle.std.specs.Prelude.{◌≡◌, ℕ, ◌<◌, List, slice_index};
 ghost use Rattle.bits.specs.Bits.{on};
-ghost use Rattle.filters.specs.Copies.{CopyOf};
+ghost use Rattle.filters.specs.Copies.{CopyOf, RestFound};
 ghost use Rattle.filters.specs.Filtering.{Ended};
 ghost use Rattle.model.specs.Meaning.{Is};
 ghost use Rattle.model.specs.Sets.{Largest};
@@ -64,6 +64,7 @@ fn filter_both<L: Level>(level: &L, set: OptionSet) -> BothWays
     ensures same { (i : ℕ) → slice_index result.rounds.left i ≡ slice_index result.queue.left i }
     ensures ended { Ended (L.meaning level.now) (L.passing level.now) result.rounds.left result.rounds.outcome }
     ensures largest { (s : List ℕ) → CopyOf s set → Largest (L.meaning level.now) (L.passing level.now) s result.rounds.left }
+    ensures rest { (s : List ℕ) → CopyOf s set → RestFound (L.meaning level.now) s result.rounds.left }
 {
     let mut rounds = set;
     let mut queue = set;
@@ -83,12 +84,13 @@ fn filter_both<L: Level>(level: &L, set: OptionSet) -> BothWays
 
 // Filtering by rounds and by queue agree, for every level and every set: they end alike and leave the
 // same words, which are the largest good subset; it is full where they settle, and empty where there is
-// no plan.
+// no plan. Their other bits are those of the set.
 pub fn both_ways<L: Level>(level: &L, set: &[u64]) -> BothWays
     ensures agree { result.rounds.outcome ≡ result.queue.outcome }
     ensures same { (i : ℕ) → slice_index result.rounds.left i ≡ slice_index result.queue.left i }
     ensures ended { Ended (L.meaning level.now) (L.passing level.now) result.rounds.left result.rounds.outcome }
     ensures largest { Largest (L.meaning level.now) (L.passing level.now) set.now result.rounds.left }
+    ensures rest { RestFound (L.meaning level.now) set.now result.rounds.left }
 {
     filter_both(level, copy_of(set))
 }

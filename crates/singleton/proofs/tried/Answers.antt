@@ -28,7 +28,7 @@ returns-in-Settled g c =
     let x = c.args.below.now in
     let run = c.in-Settled.ensures in
     tried_full (g.L.Level.meaning x) (g.L.Level.passing x) c.args.set.now c.args.line c.args.option
-    (g.met.L.Level.lawful x) (omega arith) c.hold-held.result c.by_rounds.new.set c.hold-held.ensures run.largest run.ended
+    (g.met.L.Level.lawful x) (omega arith) c.hold-held.result c.by_rounds.new.set c.hold-held.ensures run.largest run.ended run.rest
 
 -- it left none
 pub returns-in-NoPlan : goal.returns-in-NoPlan

@@ -1,3 +1,5 @@
+use Rattle.std.proofs.Common.{ap, ◌∙◌}
+use Rattle.bits.specs.Bits.{on}
 use Rattle.filters.proofs.Agreeing.{same_end, same_words_left}
 use Rattle.filters.proofs.Ends.{largest_as, same_words}
 use Rattle.filters.proofs.theorems.filter_both.Goals as goal
@@ -16,4 +18,5 @@ returns g c =
       same = same_words_left m P u rounds.new.set queue.new.set rounds.result queue.result rounds.ensures queue.ensures;
       ended = rounds.ensures.ended;
       largest = λ s copy. largest_as m P s u rounds.new.set (same_words m limits.few_lines u s copy.words) rounds.ensures.largest;
+      rest = λ s copy i a h missing. rounds.ensures.rest i a missing ∙ ap (λ w. on w a) (copy.words i h);
     }

@@ -11,10 +11,13 @@ returns g c =
     let single = c.left_by_singleton in
     let Arcs = ArcPasses m in
     record {
-      arc = arc.ensures;
-      neighbourhood = near.ensures;
-      singleton = single.ensures;
-      within_arc = stronger_leaves m (NearPasses m) Arcs (near_at_least m) s near.result arc.result near.ensures arc.ensures;
+      arc = arc.ensures.largest;
+      neighbourhood = near.ensures.largest;
+      singleton = single.ensures.largest;
+      arc_rest = arc.ensures.rest;
+      neighbourhood_rest = near.ensures.rest;
+      singleton_rest = single.ensures.rest;
+      within_arc = stronger_leaves m (NearPasses m) Arcs (near_at_least m) s near.result arc.result near.ensures.largest arc.ensures.largest;
       within_neighbourhood =
-          stronger_leaves m (SinglePasses m Arcs) (NearPasses m) (single_over_arc m Arcs (at_least_refl Arcs)) s single.result near.result single.ensures near.ensures;
+          stronger_leaves m (SinglePasses m Arcs) (NearPasses m) (single_over_arc m Arcs (at_least_refl Arcs)) s single.result near.result single.ensures.largest near.ensures.largest;
     }
