@@ -1,5 +1,6 @@
 -- Laws of bits, over words of any width.
-use Rattle.std.proofs.Common.{◌≡◌, ℕ, zero, suc, ◌+◌, ◌-◌, ◌*◌, ◌/◌, ◌%◌, ◌^◌, ◌<◌, ◌≤◌, min, Bool, true, false, not, ◌&&◌, ◌||◌, eqb, ltb, Some, None, sym, refl, ap, ◌∙◌, ⊎_elim, mul_assoc, add-mul, one-mul, div-one, one-add, arith, pow_pos, pow_mono, pow-add}
+use Rattle.std.specs.Bool.{then_some}
+use Rattle.std.proofs.Common.{◌≡◌, ℕ, zero, suc, ◌+◌, ◌-◌, ◌*◌, ◌/◌, ◌%◌, ◌^◌, ◌<◌, ◌≤◌, min, Bool, true, false, not, ◌&&◌, ◌||◌, eqb, ltb, Some, None, sym, refl, ap, ◌∙◌, subst, ⊎_elim, mul_assoc, add-mul, one-mul, div-one, one-add, arith, pow_pos, pow_mono, pow-add}
 use native.Mathlib.Nat.{mul-mod_left, mod-one, div-eq_of_lt}
 use lib.Arith.{bin_ind}
 use lib.Bits.{bit_and, bit_or, bit_xor, and_shr, or_shr, xor_shr, and_mod, or_mod, xor_mod, and_zero_l, and_zero_r, and_self, and_step, xor_zero_r, xor_add_and, and_mask, and_block}
@@ -7,6 +8,7 @@ use lib.Count.{count_trailing_zeros, under}
 use lib.Pow.{pow-lt, shl-shr, split}
 use Rattle.std.proofs.lemmas.Nat.{mod_below, shr-shr, shr_high}
 use Rattle.std.proofs.lemmas.Bool.{both_ways, cases_order, cases_eq, cases_lt, eq-eqb, ne_eqb, eqb-true, lt-ltb, le-ltb, false≢true, true≢false}
+use Rattle.std.proofs.lemmas.Bool.Decides.{nat_tests}
 use Rattle.bits.specs.Bits.{bit, on, cleared, marked}
 use Rattle.bits.specs.Least.{Least}
 
@@ -108,6 +110,13 @@ pub on_ones : (k b : ℕ) → on (2 ^ k - 1) b ≡ ltb b k
 on_ones k b = ⊎_elim (λ h. on_ones_low k b h ∙ sym (lt-ltb b k h))
     (λ h. let z = pow_pos k in let q : 2 ^ k - 1 < 2 ^ k = omega arith in on_past (2 ^ k - 1) k b q h ∙ sym (le-ltb b k h)) (cases_lt b k)
 
+-- the same where the word has no more than k bits
+pub on_mask : (n k b : ℕ) → on (2 ^ min n k - 1) b ≡ (ltb b n && ltb b k)
+on_mask n k b = on_ones (min n k) b ∙ grind (arith, nat_tests)
+
+pub on_no_mask : (k b : ℕ) → on (2 ^ min 0 k - 1) b ≡ false
+on_no_mask k b = on_mask 0 k b ∙ grind (arith, nat_tests)
+
 -- the lowest bits
 bit_zero : (n : ℕ) → bit n 0 ≡ n % 2
 bit_zero n = ap (λ x. x % 2) (div-one n)
@@ -152,6 +161,23 @@ module _ (k w from b : ℕ) (fits : w < 2 ^ k) (at : b ≡ from + count_trailing
 
   pub least_none : k ≤ b → Least (on w) from None
   least_none le c from_le = ⊎_elim (λ lt. before c from_le lt) (λ ge. on_past w k c fits (omega arith)) (cases_lt c b)
+
+  -- the one if it lies in the word, and none if it lies past its end
+  pub least_there : Least (on w) from (then_some (ltb b k) b)
+  least_there = ⊎_elim (λ lt. subst (λ t. Least (on w) from (then_some t b)) (sym (lt-ltb b k lt)) (least_found lt))
+      (λ ge. subst (λ t. Least (on w) from (then_some t b)) (sym (le-ltb b k ge)) (least_none ge)) (cases_lt b k)
+
+-- no bit that is not set comes before bit b where it is set, and there alone
+none_before : (k n : ℕ) → 0 < k → eqb (count_trailing_zeros k n) 0 ≡ on n 0
+unfolding count_trailing_zeros
+none_before zero n h = absurd (omega (arith, h))
+none_before (suc k) n h =
+    let t : ℕ = count_trailing_zeros k (n / 2) in
+    digit (λ x. (n % 2 ≡ x) → eqb (under x t) 0 ≡ on n 0) (λ e. ne_eqb (suc t) 0 (λ z. omega (arith, z)) ∙ sym (ap (λ x. eqb x 1) (bit_zero n ∙ e)))
+    (λ e. sym (ap (λ x. eqb x 1) (bit_zero n ∙ e))) (n % 2) (mod_below n 2 (omega arith)) refl
+
+pub starts_on : (k w b : ℕ) → 0 < k → eqb (count_trailing_zeros k (w / 2 ^ b)) 0 ≡ on w b
+starts_on k w b h = none_before k (w / 2 ^ b) h ∙ on_shifted w b 0 ∙ ap (λ n. on w n) (omega arith)
 
 -- a set bit that is cleared takes its value off
 cleared_value : (w b : ℕ) → on w b ≡ true → cleared w b + 2 ^ b ≡ w

@@ -1,4 +1,4 @@
-// Bits of words, for words of 64 bits and, where there is one for each of 128 lines, of 128 bits.
+// Bits of words: a word is a set of small numbers, one for each of its bits that is set.
 #![tactic(auto)]
 
 ghost use Rattle.std.specs.Prelude.{◌≡◌, ℕ, ◌+◌, ◌-◌, ◌/◌, ◌^◌, ◌<◌, ◌&&◌, ◌||◌, if◌then◌else◌, MatchOption, ◌==◌, bit_and, bit_or, bit_xor, nat_le, nat_lt};
@@ -6,209 +6,162 @@ ghost use Rattle.std.specs.Int.Count.{count_trailing_zeros};
 ghost use Rattle.bits.specs.Bits.{cleared, marked, on};
 ghost use Rattle.bits.specs.Least.{Least};
 
-// The word of bit b alone.
-fn bit_of(b: usize) -> u64
-    requires { b < 64 }
-    ensures { result ≡ 2 ^ b }
-{
-    1 << b
-}
+pub mod narrow;
+pub mod wide;
+pub mod word;
 
-// The same for a wide word.
-fn bit_of_wide(b: usize) -> u128
-    requires { b < 128 }
-    ensures { result ≡ 2 ^ b }
-{
-    1 << b
-}
-
-// The word of the bits below n.
-fn bits_below(n: usize) -> u64
-    requires { n < 64 }
-    ensures { result ≡ 2 ^ n - 1 }
-{
-    bit_of(n) - 1
-}
-
-// The word less its bits below n.
-fn less_below(word: u64, n: usize) -> u64
-    requires { n < 64 }
-    ensures { result ≡ bit_xor word (bit_and word (2 ^ n - 1)) }
-{
-    word ^ (word & bits_below(n))
-}
-
-// The word's bit b.
-fn kept_at(word: u64, b: usize) -> u64
-    requires { b < 64 }
-    ensures { result ≡ bit_and word (2 ^ b) }
-{
-    word & bit_of(b)
-}
+use crate::word::Word;
 
 // The bits that two words share.
-fn met(word: u64, other: u64) -> u64
-    ensures { result ≡ bit_and word other }
+fn met<W: Word>(word: W, other: W) -> W
+    ensures { W.number result ≡ bit_and (W.number word) (W.number other) }
 {
     word & other
 }
 
-// All bits of two wide words.
-fn joined_wide(word: u128, other: u128) -> u128
-    ensures { result ≡ bit_or word other }
+// All bits of two words.
+fn joined<W: Word>(word: W, other: W) -> W
+    ensures { W.number result ≡ bit_or (W.number word) (W.number other) }
 {
     word | other
 }
 
-// The wide word's bits below n.
-fn kept_below_wide(word: u128, n: usize) -> u128
-    requires { n < 128 }
-    ensures { result ≡ bit_and word (2 ^ n - 1) }
+// The word's bits below n.
+fn kept_below<W: Word>(word: W, n: usize) -> W
+    requires { n < W.bits }
+    ensures { W.number result ≡ bit_and (W.number word) (2 ^ n - 1) }
 {
-    word & (bit_of_wide(n) - 1)
+    word & W::mask(n)
 }
 
-// The wide word less its lowest set bit.
-fn less_lowest_wide(word: u128) -> u128
-    requires { 0 < word }
-    ensures { result ≡ bit_and word (word - 1) }
+// The word less its bits below n.
+fn less_below<W: Word>(word: W, n: usize) -> W
+    requires { n < W.bits }
+    ensures { W.number result ≡ bit_xor (W.number word) (bit_and (W.number word) (2 ^ n - 1)) }
 {
-    word & (word - 1)
+    word ^ (word & W::mask(n))
+}
+
+// The word's bit b.
+fn kept_at<W: Word>(word: W, b: usize) -> W
+    requires { b < W.bits }
+    ensures { W.number result ≡ bit_and (W.number word) (2 ^ b) }
+{
+    word & W::bit(b)
 }
 
 // Past the bits from `from` on that are not set.
-fn past_zeros(word: u64, from: usize) -> usize
-    requires { from < 64 }
-    ensures { result ≡ from + count_trailing_zeros 64 (word / 2 ^ from) }
+fn past_zeros<W: Word>(word: W, from: usize) -> usize
+    requires { from < W.bits }
+    ensures { result ≡ from + count_trailing_zeros W.bits (W.number word / 2 ^ from) }
 {
-    from + (word >> from).trailing_zeros() as usize
+    from + word.zeros_from(from)
 }
 
-// The same for a wide word.
-fn past_zeros_wide(word: u128, from: usize) -> usize
-    requires { from < 128 }
-    ensures { result ≡ from + count_trailing_zeros 128 (word / 2 ^ from) }
+// Whether the word has no bit between bit b and the next one that is set, which then is bit b.
+fn starts_at<W: Word>(word: W, b: usize) -> bool
+    requires { b < W.bits }
+    ensures { result ≡ (count_trailing_zeros W.bits (W.number word / 2 ^ b) == 0) }
 {
-    let zeros = (word >> from).trailing_zeros() as usize;
-    from + zeros
+    word.zeros_from(b) == 0
 }
 
 // Whether bit b of the word is set; there is none past its end.
-pub fn has(word: u64, b: usize) -> bool
-    ensures { result ≡ on word b }
+pub fn has<W: Word>(word: W, b: usize) -> bool
+    ensures { result ≡ on (W.number word) b }
 {
-    b < 64 && (word >> b) % 2 == 1
-}
-
-// The same for a wide word.
-pub fn has_wide(word: u128, b: usize) -> bool
-    ensures { result ≡ on word b }
-{
-    b < 128 && (word >> b) % 2 == 1
+    b < word.width() && starts_at(word, b)
 }
 
 // The least set bit at or above from.
-pub fn next_one(word: u64, from: usize) -> Option<usize>
-    ensures { Least (on word) from result }
+pub fn next_one<W: Word>(word: W, from: usize) -> Option<usize>
+    ensures { Least (on (W.number word)) from result }
 {
-    if from >= 64 {
+    let width = word.width();
+    if from >= width {
         return None;
     }
     let b = past_zeros(word, from);
-    if b < 64 { Some(b) } else { None }
-}
-
-// The same for a wide word.
-pub fn next_one_wide(word: u128, from: usize) -> Option<usize>
-    ensures { Least (on word) from result }
-{
-    if from >= 128 {
-        return None;
-    }
-    let b = past_zeros_wide(word, from);
-    if b < 128 { Some(b) } else { None }
+    (b < width).then_some(b)
 }
 
 // The word without bit b.
-pub fn without(word: u64, b: usize) -> u64
-    ensures { result ≡ cleared word b }
+pub fn without<W: Word>(word: W, b: usize) -> W
+    ensures { W.number result ≡ cleared (W.number word) b }
 {
-    if b >= 64 {
+    if b >= word.width() {
         return word;
     }
-    word ^ (word & bit_of(b))
+    word ^ (word & W::bit(b))
 }
 
 // Bit b of the word alone, if it is set.
-pub fn only(word: u64, b: usize) -> u64
-    ensures { (q : ℕ) → on result q ≡ (on word q && q == b) }
+pub fn only<W: Word>(word: W, b: usize) -> W
+    ensures { (q : ℕ) → on (W.number result) q ≡ (on (W.number word) q && q == b) }
 {
-    if b >= 64 {
-        return 0;
+    if b >= word.width() {
+        return W::mask(0);
     }
     kept_at(word, b)
 }
 
+// The word with bit b; past its end there is no place for one.
+pub fn with<W: Word>(word: W, b: usize) -> W
+    ensures { W.number result ≡ (if nat_lt b W.bits then marked (W.number word) b else W.number word) }
+{
+    if b >= word.width() {
+        return word;
+    }
+    word | W::bit(b)
+}
+
 // The bits that are set in both words.
-pub fn shared(word: u64, other: u64) -> u64
-    ensures { (b : ℕ) → on result b ≡ (on word b && on other b) }
+pub fn shared<W: Word>(word: W, other: W) -> W
+    ensures { (b : ℕ) → on (W.number result) b ≡ (on (W.number word) b && on (W.number other) b) }
 {
     met(word, other)
 }
 
-// Takes the lowest set bit out of the wide word, if there is one.
-pub fn pop_wide(word: &mut u128) -> Option<usize>
-    ensures least { Least (on word.old) 0 result }
-    ensures left { MatchOption result (word.new ≡ word.old) (λ b. word.new ≡ cleared word.old b) }
+// The bits that are set in one word or the other.
+pub fn either<W: Word>(word: W, other: W) -> W
+    ensures { (b : ℕ) → on (W.number result) b ≡ (on (W.number word) b || on (W.number other) b) }
 {
-    let b = next_one_wide(*word, 0)?;
-    *word = less_lowest_wide(*word);
-    Some(b)
+    joined(word, other)
 }
 
-// The bits that are set in one wide word or the other.
-pub fn either_wide(word: u128, other: u128) -> u128
-    ensures { (b : ℕ) → on result b ≡ (on word b || on other b) }
+// The word without its bits at or above n.
+pub fn below<W: Word>(word: W, n: usize) -> W
+    ensures { (b : ℕ) → on (W.number result) b ≡ (on (W.number word) b && nat_lt b n) }
 {
-    joined_wide(word, other)
-}
-
-// The wide word without its bits at or above n.
-pub fn below_wide(word: u128, n: usize) -> u128
-    ensures { (b : ℕ) → on result b ≡ (on word b && nat_lt b n) }
-{
-    if n >= 128 {
+    if n >= word.width() {
         return word;
     }
-    kept_below_wide(word, n)
-}
-
-// The wide word with bit b; past its end there is no place for one.
-pub fn with_wide(word: u128, b: usize) -> u128
-    ensures { result ≡ (if nat_lt b 128 then marked word b else word) }
-{
-    if b >= 128 {
-        return word;
-    }
-    word | bit_of_wide(b)
+    kept_below(word, n)
 }
 
 // The word without its lowest n bits.
-pub fn above(word: u64, n: usize) -> u64
-    ensures { (b : ℕ) → on result b ≡ (on word b && nat_le n b) }
+pub fn above<W: Word>(word: W, n: usize) -> W
+    ensures { (b : ℕ) → on (W.number result) b ≡ (on (W.number word) b && nat_le n b) }
 {
-    if n >= 64 {
-        return 0;
+    if n >= word.width() {
+        return W::mask(0);
     }
     less_below(word, n)
 }
 
 // A word whose lowest n bits alone are set, or all of them where it has fewer.
-pub fn ones(n: usize) -> u64
-    ensures { (b : ℕ) → on result b ≡ (nat_lt b n && nat_lt b 64) }
+pub fn ones<W: Word>(n: usize) -> W
+    ensures { (b : ℕ) → on (W.number result) b ≡ (nat_lt b n && nat_lt b W.bits) }
 {
-    if n >= 64 {
-        return u64::MAX;
-    }
-    bits_below(n)
+    W::mask(n)
+}
+
+// Takes the lowest set bit out of the word, if there is one.
+pub fn pop<W: Word>(word: &mut W) -> Option<usize>
+    ensures least { Least (on (W.number word.old)) 0 result }
+    ensures left { MatchOption result (word.new ≡ word.old) (λ b. W.number word.new ≡ cleared (W.number word.old) b) }
+{
+    let b = next_one(*word, 0)?;
+    *word = word.less_lowest();
+    Some(b)
 }

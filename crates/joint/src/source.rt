@@ -7,7 +7,7 @@ ghost use Rattle.model.specs.Joints.{both, joint};
 ghost use Rattle.rules.specs.Faults.{Faulty, Makes, Sound};
 
 use crate::check::check_joint;
-use bits::{below_wide, either_wide};
+use bits::either;
 use rules::source::RuleSource;
 
 // Whether the check passes.
@@ -126,9 +126,9 @@ impl<A: RuleSource, B: RuleSource> RuleSource for Joint<A, B> {
         if !self.alike || i >= lines {
             return 0;
         }
-        either_wide(
+        either(
             self.first.joined_lines(i),
-            below_wide(self.second.joined_lines(i), lines),
+            bits::below(self.second.joined_lines(i), lines),
         )
     }
 }

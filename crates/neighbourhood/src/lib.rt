@@ -9,7 +9,7 @@ ghost use Rattle.model.specs.Sets.{Empty, Full, Largest};
 ghost use Rattle.model.specs.Views.{Lists};
 ghost use Rattle.model.proofs.Nears.{near_monotone, near_plan, near_touch};
 
-use bits::{either_wide, has, only, pop_wide, with_wide};
+use bits::{either, has, only, pop, with};
 use filters::outcome::Outcome;
 use filters::rounds::by_rounds;
 use filters::theorems::OptionSet;
@@ -30,7 +30,7 @@ fn line_word(line: usize) -> u128
     requires { line < 128 }
     ensures { (k : ℕ) → on result k ≡ (k == line) }
 {
-    with_wide(0, line)
+    with(0, line)
 }
 
 // The word of the line and of the lines joined with it.
@@ -38,7 +38,7 @@ fn near_word<S: RuleSource>(source: &S, centre: usize) -> u128
     requires { centre < 128 }
     ensures { (k : ℕ) → on result k ≡ near (S.meaning source.now) centre k }
 {
-    either_wide(line_word(centre), source.joined_lines(centre))
+    either(line_word(centre), source.joined_lines(centre))
 }
 
 // The set bits of a wide word in rising order, and how many they are.
@@ -49,7 +49,7 @@ fn listed(word: u128) -> ([usize; 128], usize)
     let mut lines = [0; 128];
     let mut n = 0;
     let mut rest = word;
-    while let Some(k) = pop_wide(&mut rest) {
+    while let Some(k) = pop(&mut rest) {
         lines[n] = k;
         n += 1;
     }

@@ -5,7 +5,7 @@ ghost use Rattle.bits.specs.Least.{Least};
 ghost use Rattle.model.specs.Meaning.{Lawful, Meaning};
 ghost use Rattle.rules.specs.Standing.{standing_with};
 
-use bits::{has, with_wide};
+use bits::{has, with};
 
 pub trait RuleSource {
     // Its lines, their option counts, which lines are joined and which options go together. All that is
@@ -82,7 +82,7 @@ pub trait RuleSource {
         let lines = self.lines();
         for j in 0..lines {
             if self.joined(i, j) {
-                found = with_wide(found, j);
+                found = with(found, j);
             }
         }
         found

@@ -7,7 +7,7 @@ ghost use Rattle.supports.specs.Adding.{fit, ruled, unruled};
 ghost use Rattle.supports.specs.Held.{supports_meaning};
 
 use crate::supports::Supports;
-use bits::{ones, with_wide, without};
+use bits::{ones, with, without};
 use rules::parts::names_two;
 use rules::source::RuleSource;
 use std::alloc::{AllocError, Global};
@@ -38,7 +38,7 @@ fn mark(words: &mut Vec<u128>, at: usize, b: usize)
     ensures { words.new.items ≡ mark_at words.old.items at b }
 {
     let w = words[at];
-    words[at] = with_wide(w, b);
+    words[at] = with(w, b);
 }
 
 // Whether each count is 1 to 64.

@@ -6,7 +6,7 @@ ghost use Rattle.rules.specs.Standing.{standing_with};
 ghost use Rattle.supports.specs.Held.{held, supports_meaning};
 
 use crate::supports::Supports;
-use bits::{has, has_wide, next_one, next_one_wide, shared};
+use bits::{has, next_one, shared};
 use rules::parts::item_or;
 use rules::source::RuleSource;
 
@@ -62,7 +62,7 @@ impl RuleSource for Supports {
     }
 
     fn joined(&self, i: usize, j: usize) -> bool {
-        has_wide(self.joins(i), j)
+        has(self.joins(i), j)
     }
 
     fn together(&self, i: usize, a: usize, j: usize, b: usize) -> bool {
@@ -74,7 +74,7 @@ impl RuleSource for Supports {
     }
 
     fn next_joined(&self, i: usize, from: usize) -> Option<usize> {
-        next_one_wide(self.joins(i), from)
+        next_one(self.joins(i), from)
     }
 
     fn next_standing(

@@ -7,7 +7,7 @@ ghost use Rattle.model.proofs.Views.{shown_lawful};
 ghost use Rattle.model.specs.Making.{two_of};
 ghost use Rattle.model.specs.Views.{on_words, shown_by, view_meaning};
 
-use bits::{has_wide, next_one, next_one_wide, with_wide};
+use bits::{has, next_one, with};
 use rules::parts::item_or;
 use rules::source::RuleSource;
 
@@ -32,8 +32,8 @@ fn places(shown: &[usize], lines: u128) -> u128
 {
     let mut found = 0;
     for p in 0..shown.len() {
-        if has_wide(lines, shown[p]) {
-            found = with_wide(found, p);
+        if has(lines, shown[p]) {
+            found = with(found, p);
         }
     }
     found
@@ -85,7 +85,7 @@ impl<'a, S: RuleSource> View<'a, S> {
         ensures { Least (on_words (length self.now.shown.now) self.now.joins place) from result }
     {
         if place < self.shown.len() {
-            next_one_wide(self.joins[place], from)
+            next_one(self.joins[place], from)
         } else {
             None
         }
@@ -134,7 +134,7 @@ impl<'a, S: RuleSource> RuleSource for View<'a, S> {
     }
 
     fn joined(&self, i: usize, j: usize) -> bool {
-        i < self.shown.len() && has_wide(self.joins[i], j)
+        i < self.shown.len() && has(self.joins[i], j)
     }
 
     fn together(&self, i: usize, a: usize, j: usize, b: usize) -> bool {

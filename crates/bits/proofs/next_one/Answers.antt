@@ -1,12 +1,16 @@
-use Rattle.std.proofs.Common.{arith}
-use Rattle.bits.proofs.Bits.{on_past, least_found, least_none}
+use Rattle.std.proofs.Common.{ltb, ap, ◌∙◌, subst, sym, arith}
+use Rattle.std.specs.Bool.{then_some}
+use Rattle.bits.specs.Bits.{on}
+use Rattle.bits.specs.Least.{Least}
+use Rattle.bits.proofs.Bits.{on_past, least_there}
 use Rattle.bits.proofs.next_one.Goals as goal
 
-pub returns-then-from-ge64 : goal.returns-then-from-ge64
-returns-then-from-ge64 c b h = on_past c.args.word 64 b (omega arith) (omega arith)
+pub returns-then-from-width : goal.returns-then-from-width
+returns-then-from-width g c b h = on_past (g.W.Word.number c.args.word) g.W.Word.bits b c.width-width.ensures.fits (omega (arith, h, c.width-width.ensures.count, c.if-from-width.true))
 
-pub returns-then-b-lt64 : goal.returns-then-b-lt64
-returns-then-b-lt64 c = least_found 64 c.args.word c.args.from c.past_zeros-b.result (omega arith) c.past_zeros-b.ensures c.if-b-lt64.true
-
-pub returns-else-b-lt64 : goal.returns-else-b-lt64
-returns-else-b-lt64 c = least_none 64 c.args.word c.args.from c.past_zeros-b.result (omega arith) c.past_zeros-b.ensures c.if-b-lt64.false
+pub returns : goal.returns
+returns g c =
+    let m = g.W.Word in
+    let b = c.past_zeros-b.result in
+    subst (Least (on (m.number c.args.word)) c.args.from) (sym (c.then_some.ensures ∙ ap (λ k. then_some (ltb b k) b) c.width-width.ensures.count))
+    (least_there m.bits (m.number c.args.word) c.args.from b c.width-width.ensures.fits c.past_zeros-b.ensures)

@@ -4,4 +4,4 @@ use Rattle.bits.proofs.Bits.{on_and}
 use Rattle.bits.proofs.shared.Goals as goal
 
 pub returns : goal.returns
-returns c b = ap (λ x. on x b) c.met.ensures ∙ on_and c.args.word c.args.other b
+returns g c b = ap (λ x. on x b) c.met.ensures ∙ on_and (g.W.Word.number c.args.word) (g.W.Word.number c.args.other) b

@@ -3,5 +3,5 @@ use Rattle.bits.proofs.Bits.{cleared_past}
 use Rattle.bits.proofs.without.Goals as goal
 
 -- past the word's end
-pub returns-then-b-ge64 : goal.returns-then-b-ge64
-returns-then-b-ge64 c = sym (cleared_past c.args.word 64 c.args.b (omega arith) (omega arith))
+pub returns-then-b-width : goal.returns-then-b-width
+returns-then-b-width g c = sym (cleared_past (g.W.Word.number c.args.word) g.W.Word.bits c.args.b c.width.ensures.fits (omega (arith, c.width.ensures.count, c.if-b-width.true)))

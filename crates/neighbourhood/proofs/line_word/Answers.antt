@@ -7,4 +7,4 @@ use Rattle.neighbourhood.proofs.line_word.Goals as goal
 pub returns : goal.returns
 returns c k =
     let i = c.args.line in
-    ap (λ w. on w k) (c.with_wide.ensures ∙ cond-true (ltb i 128) (marked 0 i) 0 (lt-ltb i 128 c.requires)) ∙ on_marked 0 i k ∙ ap (λ b. b || eqb k i) (on_zero k)
+    ap (λ w. on w k) (c.with.ensures ∙ cond-true (ltb i 128) (marked 0 i) 0 (lt-ltb i 128 c.requires)) ∙ on_marked 0 i k ∙ ap (λ b. b || eqb k i) (on_zero k)

@@ -33,6 +33,6 @@ loop-k-preserved c =
     let l : n < length lines = omega (arith, room c) in (
       length-set lines n k ∙ inv.0,
       omega (arith, room c),
-      subst (Listing c.args.word c.pop_wide.new.word) (sym (take_more_set lines n k l))
-          (listing_push c.args.word c.loop-k.rest c.pop_wide.new.word k (take n lines) inv.2 e.least e.left),
+      subst (Listing c.args.word c.pop.new.word) (sym (take_more_set lines n k l))
+          (listing_push c.args.word c.loop-k.rest c.pop.new.word k (take n lines) inv.2 e.least e.left),
     )

@@ -14,7 +14,7 @@ loop-j-preserved g c =
     let few : j < 128 = omega (arith, (g.Self.RuleSource.lawful x).limits.few_lines) in
     elim c.if-joined.branch [
       | then-joined v ↦
-          let is : c.if-joined.found ≡ marked w j = v.found-is ∙ v.with_wide-found.ensures ∙ cond-true (ltb j 128) (marked w j) w (lt-ltb j 128 few) in
+          let is : c.if-joined.found ≡ marked w j = v.found-is ∙ v.with-found.ensures ∙ cond-true (ltb j 128) (marked w j) w (lt-ltb j 128 few) in
           subst (λ n. Found f n (j + 1)) (sym is) (found_more f w j c.loop-j.invariant (sym c.joined.ensures ∙ v.if-joined.true))
       | else-joined v ↦ subst (λ n. Found f n (j + 1)) (sym v.found-is) (found_same f w j c.loop-j.invariant (sym c.joined.ensures ∙ v.if-joined.false))
     ]

@@ -11,4 +11,4 @@ returns-then-place-self g c =
     let x = c.args.self.now in
     let w = slice_index x.joins c.args.place in
     let row : (n : ℕ) → on w n ≡ on_words (length x.shown.now) x.joins c.args.place n = λ n. sym (ap (λ t. t && on w n) (lt-ltb c.args.place (length x.shown.now) c.if-place-self.true)) in
-    subst (λ (t : ℕ → Bool). Least t c.args.from c.next_one_wide.result) (fun_ext row) c.next_one_wide.ensures
+    subst (λ (t : ℕ → Bool). Least t c.args.from c.next_one.result) (fun_ext row) c.next_one.ensures

@@ -1,0 +1,44 @@
+// Words of 128 bits.
+ghost use Rattle.std.proofs.Common.{lit≤};
+
+use crate::word::Word;
+
+impl Word for u128 {
+    ghost bits = { 128 };
+
+    ghost number = { λ x. x };
+
+    ghost few = { lit≤ tt };
+
+    ghost can_and = { λ x y. tt };
+
+    ghost and = { λ x y z e. e };
+
+    ghost can_or = { λ x y. tt };
+
+    ghost or = { λ x y z e. e };
+
+    ghost can_xor = { λ x y. tt };
+
+    ghost xor = { λ x y z e. e };
+
+    fn width(self) -> usize {
+        128
+    }
+
+    fn bit(b: usize) -> u128 {
+        1 << b
+    }
+
+    fn mask(n: usize) -> u128 {
+        if n < 128 { (1 << n) - 1 } else { u128::MAX }
+    }
+
+    fn less_lowest(self) -> u128 {
+        self & (self - 1)
+    }
+
+    fn zeros_from(self, from: usize) -> usize {
+        (self >> from).trailing_zeros() as usize
+    }
+}
