@@ -1,11 +1,11 @@
 // Arc consistency: an option passes if every joined line has an option in the set that goes with it.
-ghost use Rattle.model.specs.Passing.{ArcPasses, Supported};
+ghost use Rattle.model.specs.Passing.{AllSupported, ArcPasses, Supported};
 ghost use Rattle.std.specs.Prelude.{Decides};
 ghost use Rattle.model.proofs.Arcs.{arc_monotone, arc_plan, arc_touch};
 
 use crate::level::Level;
 use crate::words::word;
-use bits::has;
+use bits::{has, pop};
 use rules::source::RuleSource;
 
 // Arc consistency over a source.
@@ -14,20 +14,24 @@ pub struct Arc<S: RuleSource> {
     pub source: S,
 }
 
-// Whether line j has an option in the set that goes with option a of line i: the next option that
-// goes with it, until one stands.
+// Whether line j has an option in the set that goes with option a of line i.
 fn supported<S: RuleSource>(source: &S, set: &[u64], i: usize, a: usize, j: usize) -> bool
     ensures { Decides result (Supported (S.meaning source.now) set.now i a j) }
 {
-    let standing = word(set, j);
-    let mut from = 0;
-    while let Some(b) = source.next_support(i, a, j, from) {
-        if has(standing, b) {
-            return true;
+    source.next_standing(i, a, j, 0, word(set, j)).is_some()
+}
+
+// Whether every joined line has one.
+fn all_supported<S: RuleSource>(source: &S, set: &[u64], i: usize, a: usize) -> bool
+    ensures { Decides result (AllSupported (S.meaning source.now) set.now i a) }
+{
+    let mut rest = source.joined_lines(i);
+    while let Some(j) = pop(&mut rest) {
+        if !supported(source, set, i, a, j) {
+            return false;
         }
-        from = b + 1;
     }
-    false
+    true
 }
 
 impl<S: RuleSource> Level for Arc<S> {
@@ -62,18 +66,9 @@ impl<S: RuleSource> Level for Arc<S> {
         self.source.joined(i, j)
     }
 
-    // The next joined line, until one has no support.
     fn passes(&self, set: &[u64], line: usize, option: usize) -> bool {
-        if option >= self.source.count(line) || !has(word(set, line), option) {
-            return false;
-        }
-        let mut from = 0;
-        while let Some(j) = self.source.next_joined(line, from) {
-            if !supported(&self.source, set, line, option, j) {
-                return false;
-            }
-            from = j + 1;
-        }
-        true
+        option < self.source.count(line)
+            && has(word(set, line), option)
+            && all_supported(&self.source, set, line, option)
     }
 }

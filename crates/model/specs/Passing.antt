@@ -8,10 +8,14 @@ use Rattle.model.specs.Sets.{In, Sub, SomeOn, Full}
 abbrev pub Supported : Meaning → List ℕ → ℕ → ℕ → ℕ → Type 0
 Supported m s i a j = (b : ℕ) × In m s j b × (m.together i a j b ≡ true)
 
+-- every line that is joined with line i has such an option
+abbrev pub AllSupported : Meaning → List ℕ → ℕ → ℕ → Type 0
+AllSupported m s i a = (j : ℕ) → m.joined i j ≡ true → Supported m s i a j
+
 -- arc consistency: every joined line has an option in the set that goes with option a of line i
 pub record ArcPasses (m : Meaning) (s : List ℕ) (i a : ℕ) : Type 0 where
   pub here : In m s i a
-  pub all : (j : ℕ) → m.joined i j ≡ true → Supported m s i a j
+  pub all : AllSupported m s i a
 
 -- line k is line i or joined with it
 abbrev pub near : Meaning → ℕ → ℕ → Bool
