@@ -73,9 +73,6 @@ module _ (m : Meaning) (law : Lawful m) (v : List ℕ) where
         (implied (ltb a (view_count m v k)) (ltb b (view_count m v j) && t) (λ e. lt k a p.0 (law.proper.together _ a _ b (and_parts (ltb b (view_count m v j)) t e).1).0.1)
         ∙ implied (ltb b (view_count m v j)) t (λ e. lt j b p.1 (law.proper.together _ a _ b e).1.1))
 
-    -- the same of all options, of lines that stand at the two places
-    pub shown_row : (k a j i l : ℕ) → f k j ≡ true → i ≡ get_or v k 0 → l ≡ get_or v j 0 → m.together i a l ≡ (shown_by m v f).together k a j
-    shown_row k a j i l e p q = rw (p, q) (sym (fun_ext (λ b. shown_together k a j b e)))
 
   -- options of lines that are not joined go together if they exist
   pub shown_free : (f : ℕ → ℕ → Bool) (k a j b : ℕ) → f k j ≡ false → (k ≡ j → ⊥) → a < view_count m v k → (shown_by m v f).together k a j b ≡ ltb b (view_count m v j)
@@ -98,16 +95,16 @@ module _ (m : Meaning) (law : Lawful m) (v : List ℕ) where
       and_swap (ltb k (length v)) (ltb j (length v)) (m.joined (get_or v k 0) (get_or v j 0))
       ∙ ap (λ x. ltb j (length v) && (ltb k (length v) && x)) (law.mirrored.joined (get_or v k 0) (get_or v j 0))
 
+  -- options of joined lines go together as in the source
+  pub view_row : (k a j i l : ℕ) → view_joined m v k j ≡ true → i ≡ get_or v k 0 → l ≡ get_or v j 0 → m.together i a l ≡ (view_meaning m v).together k a j
+  view_row k a j i l e p q = rw (p, q) (sym (fun_ext (λ b. shown_together (view_joined m v) view_two k a j b e)))
+
+  -- the facts of the view
+  pub view_lawful : 0 < length v → length v ≤ 128 → Lawful (view_meaning m v)
+  view_lawful = shown_lawful (view_joined m v) view_two view_same
+
   -- a word for each line that tells the lines it is joined with
-  module _ (ws : List ℕ) (is : (k j : ℕ) → k < length v → on (get_or ws k 0) j ≡ (ltb j (length v) && m.joined (get_or v k 0) (get_or v j 0))) where
-    words_joined : (k j : ℕ) → on_words (length v) ws k j ≡ view_joined m v k j
-    words_joined k j = guarded (ltb k (length v)) (on (get_or ws k 0) j) (ltb j (length v) && m.joined (get_or v k 0) (get_or v j 0)) (λ e. is k j (ltb-true k (length v) e))
-
-    pub words_two : (k j : ℕ) → on_words (length v) ws k j ≡ true → two_of (length v) k j ≡ true
-    words_two k j e = view_two k j (sym (words_joined k j) ∙ e)
-
-    pub words_same : (k j : ℕ) → on_words (length v) ws k j ≡ on_words (length v) ws j k
-    words_same k j = words_joined k j ∙ view_same k j ∙ sym (words_joined j k)
-
-    pub words_view : shown_by m v (on_words (length v) ws) ≡ view_meaning m v
-    words_view = ap (shown_by m v) (fun_ext (λ k. fun_ext (words_joined k)))
+  pub words_joined : (ws : List ℕ)
+      → ((k j : ℕ) → k < length v → on (get_or ws k 0) j ≡ (ltb j (length v) && m.joined (get_or v k 0) (get_or v j 0)))
+      → (k j : ℕ) → on_words (length v) ws k j ≡ view_joined m v k j
+  words_joined ws is k j = guarded (ltb k (length v)) (on (get_or ws k 0) j) (ltb j (length v) && m.joined (get_or v k 0) (get_or v j 0)) (λ e. is k j (ltb-true k (length v) e))
