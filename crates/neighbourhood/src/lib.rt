@@ -2,17 +2,18 @@
 // the lines joined with that, looked at alone, have a good subset at arc that is not empty.
 #![tactic(auto)]
 
-ghost use Rattle.std.specs.Prelude.{◌≡◌, ℕ, ◌<◌, ◌≤◌, ◌&&◌, length, take, Decides, MatchBool, ◌==◌, slice_index};
+ghost use Rattle.std.specs.Prelude.{◌≡◌, ℕ, ◌<◌, ◌&&◌, ◌||◌, Decides, MatchBool, ◌==◌, slice_index};
+ghost use Rattle.arrayvec.specs.ArrayVec.{array_vec_len};
 ghost use Rattle.bits.specs.Bits.{on};
 ghost use Rattle.model.specs.Passing.{NearPasses, near, stays};
 ghost use Rattle.model.specs.Sets.{Empty, Full, Largest};
 ghost use Rattle.model.specs.Views.{Lists};
 ghost use Rattle.model.proofs.Nears.{near_monotone, near_plan, near_touch};
 
-use bits::{either, has, only, pop, with};
+use arrayvec::ArrayVec;
+use bits::{has, only, pop, with};
 use filters::outcome::Outcome;
 use filters::rounds::by_rounds;
-use filters::theorems::OptionSet;
 use levels::arc::Arc;
 use levels::level::Level;
 use levels::words::word;
@@ -25,12 +26,12 @@ pub struct Neighbourhood<S: RuleSource> {
     pub source: S,
 }
 
-// The word of one line.
-fn line_word(line: usize) -> u128
+// The lines of a word, and one more.
+fn with_line(word: u128, line: usize) -> u128
     requires { line < 128 }
-    ensures { (k : ℕ) → on result k ≡ (k == line) }
+    ensures { (k : ℕ) → on result k ≡ (k == line || on word k) }
 {
-    with(0, line)
+    with(word, line)
 }
 
 // The word of the line and of the lines joined with it.
@@ -38,29 +39,25 @@ fn near_word<S: RuleSource>(source: &S, centre: usize) -> u128
     requires { centre < 128 }
     ensures { (k : ℕ) → on result k ≡ near (S.meaning source.now) centre k }
 {
-    either(line_word(centre), source.joined_lines(centre))
+    with_line(source.joined_lines(centre), centre)
 }
 
-// The set bits of a wide word in rising order, and how many they are.
-fn listed(word: u128) -> ([usize; 128], usize)
-    ensures few { result.1 ≤ 128 }
-    ensures lists { Lists (on word) (take result.1 result.0) }
+// The set bits of a word in rising order.
+fn listed(word: u128) -> ArrayVec<usize, 128>
+    ensures { Lists (on word) result.items }
 {
-    let mut lines = [0; 128];
-    let mut n = 0;
+    let mut lines = ArrayVec::new();
     let mut rest = word;
     while let Some(k) = pop(&mut rest) {
-        lines[n] = k;
-        n += 1;
+        lines.push(k);
     }
-    (lines, n)
+    lines
 }
 
-// The line and the lines joined with it in rising order, and how many they are.
-fn looked<S: RuleSource>(source: &S, centre: usize) -> ([usize; 128], usize)
+// The line and the lines joined with it in rising order.
+fn looked<S: RuleSource>(source: &S, centre: usize) -> ArrayVec<usize, 128>
     requires { centre < 128 }
-    ensures few { result.1 ≤ 128 }
-    ensures lists { Lists (near (S.meaning source.now) centre) (take result.1 result.0) }
+    ensures { Lists (near (S.meaning source.now) centre) result.items }
 {
     listed(near_word(source, centre))
 }
@@ -76,14 +73,18 @@ fn held_word(set: &[u64], line: usize, centre: usize, option: usize) -> u64
     }
 }
 
-// The words of the shown lines.
-fn held_words(set: &[u64], shown: &[usize], centre: usize, option: usize) -> OptionSet
-    requires { length shown.now ≤ 128 }
-    ensures { (p b : ℕ) → p < length shown.now → on (slice_index result p) b ≡ (on (slice_index set.now (slice_index shown.now p)) b && stays centre option (slice_index shown.now p) b) }
+// The words of the lines that are looked at.
+fn held_words(
+    set: &[u64],
+    looked: &ArrayVec<usize, 128>,
+    centre: usize,
+    option: usize,
+) -> ArrayVec<u64, 128>
+    ensures { (p b : ℕ) → p < array_vec_len looked.now → on (slice_index result.items p) b ≡ (on (slice_index set.now (slice_index looked.now.items p)) b && stays centre option (slice_index looked.now.items p) b) }
 {
-    let mut words = [0; 128];
-    for p in 0..shown.len() {
-        words[p] = held_word(set, shown[p], centre, option);
+    let mut words = ArrayVec::new();
+    for line in looked.as_slice() {
+        words.push(held_word(set, *line, centre, option));
     }
     words
 }
@@ -93,10 +94,7 @@ fn settles<L: Level>(level: &L, words: &mut [u64]) -> bool
     ensures largest { Largest (L.meaning level.now) (L.passing level.now) words.old words.new }
     ensures ended { MatchBool result (Full (L.meaning level.now) (L.passing level.now) words.new) (Empty (L.meaning level.now) words.new) }
 {
-    match by_rounds(level, words) {
-        Outcome::Settled => true,
-        Outcome::NoPlan => false,
-    }
+    matches!(by_rounds(level, words), Outcome::Settled)
 }
 
 // The trial of an option of the set: a run at arc over a view of the looked-at lines alone.
@@ -106,11 +104,10 @@ fn near_passes<S: RuleSource>(source: &S, set: &[u64], line: usize, option: usiz
     if option >= source.count(line) || !has(word(set, line), option) {
         return false;
     }
-    let (lines, n) = looked(source, line);
-    let shown = &lines[0..n];
-    let mut words = held_words(set, shown, line, option);
-    match View::new(source, shown) {
-        Some(view) => settles(&Arc { source: view }, &mut words),
+    let lines = looked(source, line);
+    let mut words = held_words(set, &lines, line, option);
+    match View::new(source, lines.as_slice()) {
+        Some(view) => settles(&Arc { source: view }, words.as_mut_slice()),
         None => false,
     }
 }
