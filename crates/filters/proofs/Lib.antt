@@ -1,3 +1,4 @@
+pub mod Ranges
 pub mod Strikes
 pub mod Baring
 pub mod Least
