@@ -7,7 +7,7 @@ use Rattle.model.specs.Sets.{In, Less, SomeOn, EachLine}
 use Rattle.filters.specs.Keeping.{Keeps}
 use Rattle.filters.specs.Sweeps.{Tested, LineEnd, LineSwept, RoundSwept}
 use Rattle.filters.specs.declared.sweep.Emptied.{Emptied}
-use Rattle.filters.proofs.Strikes.{keeps_refl, keeps_trans, less_refl, less_trans}
+use Rattle.filters.proofs.Strikes.{keeps_trans, less_trans}
 
 -- a sum that fell once more, where the set was as at first or had fallen
 fell_more : (s r r' : List ℕ) (struck : Bool) → (struck ≡ false → r ≡ s) → (struck ≡ true → sum r < sum s) → sum r' < sum r → sum r' < sum s
@@ -23,15 +23,6 @@ pub record LineLoop (m : Meaning) (P : List ℕ → ℕ → ℕ → Type 0) (sel
   pub own : self ≡ false → (k : ℕ) → k < n → In m r i k → P r i k
 
 module _ (m : Meaning) (P : List ℕ → ℕ → ℕ → Type 0) (self : Bool) (i : ℕ) (s : List ℕ) where
-  pub line_start : LineLoop m P self i s s false 0
-  line_start = record {
-    keeps = keeps_refl m P s;
-    less = less_refl m i s;
-    clean = λ e. (refl, λ k h. absurd (omega arith));
-    fell = λ e. absurd (true≢false (sym e));
-    own = λ e k h. absurd (omega arith);
-  }
-
   -- option n stays
   pub line_stay : (r r' : List ℕ) (struck : Bool) (n : ℕ) → LineLoop m P self i s r struck n → Tested m P i n r r' false → LineLoop m P self i s r' struck (n + 1)
   line_stay r r' struck n h t = subst (λ q. LineLoop m P self i s q struck (n + 1)) (sym (t.stays refl).0) (record {
@@ -86,14 +77,6 @@ pub record RoundLoop (m : Meaning) (P : List ℕ → ℕ → ℕ → Type 0) (s 
   pub fell : struck ≡ true → sum r < sum s
 
 module _ (m : Meaning) (P : List ℕ → ℕ → ℕ → Type 0) (s : List ℕ) where
-  pub round_start : EachLine m s → RoundLoop m P s s false 0
-  round_start each = record {
-    keeps = keeps_refl m P s;
-    each = each;
-    clean = λ e. (refl, λ k h. absurd (omega arith));
-    fell = λ e. absurd (true≢false (sym e));
-  }
-
   -- line n was swept, and `more` says whether options of it were struck
   pub round_more : (self : Bool) (r r' : List ℕ) (struck more : Bool) (n : ℕ) → RoundLoop m P s r struck n → LineSwept m P self n r r' (Ok more) → RoundLoop m P s r' (struck || more) (n + 1)
   round_more self r r' struck true n h t = record {

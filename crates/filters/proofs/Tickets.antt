@@ -1,7 +1,6 @@
 -- Tickets of waiting lines.
-use Rattle.std.proofs.Common.{◌≡◌, ℕ, ◌+◌, ◌^◌, ◌<◌, ◌≤◌, Bool, true, false, not, cond, ◌&&◌, List, Some, None, Option, is_some, length, set, count_by, sym, refl, ap, ◌∙◌, subst, inl, inr, ◌⊎◌, ⊎_elim, arith}
+use Rattle.std.proofs.Common.{◌≡◌, ℕ, ◌+◌, ◌^◌, ◌<◌, ◌≤◌, Bool, true, false, not, ◌&&◌, List, Some, None, Option, is_some, length, set, count_by, sym, refl, ap, ◌∙◌, subst, inl, inr, ◌⊎◌, ⊎_elim, arith}
 use Rattle.std.proofs.lemmas.List.{get_or_past, get_or-set_same, get_or-set_other}
-use Rattle.std.proofs.lemmas.List.Sums.{sum_by-set}
 use Rattle.std.proofs.lemmas.Bool.{and_from, and_parts, both_ways, cases_eq, cases_lt, false≢true}
 use Rattle.std.proofs.lemmas.Option.{none-some, same_Some}
 use Rattle.filters.specs.Queues.{ticket, ToWake, Waits, Woken}
@@ -16,7 +15,7 @@ no_ticket None h = refl
 no_ticket (Some t) h = absurd (false≢true h)
 
 -- a line that waits has a place
-pub ticket_within : (ts : List (Option ℕ)) (i : ℕ) → Waits ts i → i < length ts
+ticket_within : (ts : List (Option ℕ)) (i : ℕ) → Waits ts i → i < length ts
 ticket_within ts i wait =
     ⊎_elim (λ l. l) (λ past. absurd (none-some wait.0 (sym (get_or_past ts i None past) ∙ wait.1))) (cases_lt i (length ts))
 
@@ -28,10 +27,6 @@ waiting ts = count_by is_some ts
 module _ (ts : List (Option ℕ)) (i : ℕ) (wait : Waits ts i) where
   within : i < length ts
   within = ticket_within ts i wait
-
-  pub fewer_wait : waiting (set ts i None) < waiting ts
-  fewer_wait =
-      omega (arith, sum_by-set (λ t. cond (is_some t) 1 0) ts i None None within, ap {B = ℕ} (λ t. cond (is_some t) 1 0) wait.1)
 
   pub others_stay : (j : ℕ) → (j ≡ i → ⊥) → ticket (set ts i None) j ≡ ticket ts j
   others_stay j ne = get_or-set_other ts i j None None ne

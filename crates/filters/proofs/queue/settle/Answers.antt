@@ -1,5 +1,4 @@
-use Rattle.std.proofs.Common.{Ok, is_some, subst, arith}
-use Rattle.std.proofs.lemmas.List.Sums.{count_by-le-length}
+use Rattle.std.proofs.Common.{Ok, subst}
 use Rattle.filters.specs.Sweeps.{LineSwept}
 use Rattle.filters.proofs.Strikes.{keeps_trans}
 use Rattle.filters.proofs.Ends.{emptied}
@@ -21,14 +20,6 @@ returns-in_err-sweep_line g c =
     (q.real i (c.in-Some.ensures.0.0, c.in-Some.ensures.0.1)) line.ended c.from_residual-in_err-sweep_line.ensures.0
 
 -- something was struck
-pub loop-i-smaller-then-branch : goal.loop-i-smaller-then-branch
-loop-i-smaller-then-branch g c =
-    let x = c.args.level.now in
-    let i = c.in-Some.i in
-    let struck = subst (λ b. LineSwept (g.L.Level.meaning x) (g.L.Level.passing x) (g.L.Level.touching x i i) i c.loop-i.set c.sweep_line.new.set (Ok b)) c.if-branch.true c.in_ok-sweep_line.ensures in
-    let us = c.wake.new.self.tickets in
-    omega (arith, c.wake.new.self.places, count_by-le-length is_some us, struck.ended.0)
-
 pub loop-i-preserved-then-branch : goal.loop-i-preserved-then-branch
 loop-i-preserved-then-branch g c =
     let x = c.args.level.now in

@@ -17,9 +17,9 @@ loop-j-preserved g c =
     elim c.if-wakes.branch [
       | then-wakes w ↦
           subst₂ (λ vs n. Woken (j + 1) touched ts vs last n)
-          (sym w.append.ensures.tickets ∙ ap (λ (q : Queue). q.tickets) (sym w.self-is)) (ap (λ (q : Queue). q.last) (sym w.self-is))
-          (woken_add j touched ts us last next woken w.append.new.self.last (omega (arith, c.loop-j.self.places, (g.met.L.Level.lawful c.args.level.now).limits.few_lines)) (sym w.if-wakes.ensures) w.append.ensures.later w.append.ensures.next)
+          (sym (ap (λ (q : Queue). q.tickets) w.self-is ∙ w.append.ensures.tickets)) (sym (ap (λ (q : Queue). q.last) w.self-is))
+          (woken_add j touched ts us last next woken w.append.new.self.last (omega (arith, c.loop-j.self.places, (g.met.L.Level.lawful c.args.level.now).limits.few_lines)) (sym c.wakes.ensures ∙ w.if-wakes.true) w.append.ensures.later w.append.ensures.next)
       | else-wakes w ↦
-          subst₂ (λ vs n. Woken (j + 1) touched ts vs last n) (ap (λ (q : Queue). q.tickets) (sym w.self-is)) (ap (λ (q : Queue). q.last) (sym w.self-is))
-          (woken_skip j touched ts us last next woken (sym w.if-wakes.ensures))
+          subst₂ (λ vs n. Woken (j + 1) touched ts vs last n) (sym (ap (λ (q : Queue). q.tickets) w.self-is)) (sym (ap (λ (q : Queue). q.last) w.self-is))
+          (woken_skip j touched ts us last next woken (sym c.wakes.ensures ∙ w.if-wakes.false))
     ]
