@@ -1,6 +1,6 @@
+pub mod Ranges
 pub mod Strikes
 pub mod Baring
-pub mod Least
 pub mod Sweeping
 pub mod Tickets
 pub mod Queueing

@@ -2,12 +2,12 @@
 use Rattle.std.proofs.Common.{◌≡◌, ℕ, ◌<◌, true, false, not, ◌&&◌, eqb, List, length, get_or, sum, sym, refl, ap, ◌∙◌, subst, subst₂, ⊎_elim, arith}
 use Rattle.std.proofs.lemmas.List.{get_or-set_same, get_or-set_other, get_or_past}
 use Rattle.std.proofs.lemmas.List.Sums.{sum_by-set}
+use Rattle.std.proofs.Math.Bool.{and-true}
 use Rattle.std.proofs.lemmas.Bool.{and_right, both_ways, cases_eq, cases_lt, eq-eqb, ne_eqb}
 use Rattle.bits.specs.Bits.{on, cleared}
 use Rattle.bits.proofs.Bits.{cleared_falls, on_cleared, on_zero}
 use Rattle.model.specs.Meaning.{Meaning, Is}
 use Rattle.model.specs.Sets.{In, Sub, Less}
-use Rattle.model.proofs.Bools.{and_true}
 use Rattle.filters.specs.Keeping.{Keeps}
 use Rattle.filters.specs.Sweeps.{strike}
 
@@ -33,7 +33,7 @@ module _ (s : List ℕ) (i a : ℕ) (stands : on (get_or s i 0) a ≡ true) wher
       same : j ≡ i → on (get_or (strike s i a) j 0) b ≡ on (get_or s j 0) b
       same e =
           subst (λ k. on (get_or (strike s i a) k 0) b ≡ on (get_or s k 0) b) (sym e)
-          (ap (λ w. on w b) same_word ∙ on_cleared (get_or s i 0) a b ∙ ap (λ t. on (get_or s i 0) b && not t) (ne_eqb b a (ne e)) ∙ and_true (on (get_or s i 0) b))
+          (ap (λ w. on w b) same_word ∙ on_cleared (get_or s i 0) a b ∙ ap (λ t. on (get_or s i 0) b && not t) (ne_eqb b a (ne e)) ∙ and-true (on (get_or s i 0) b))
 
   down : (j b : ℕ) → on (get_or (strike s i a) j 0) b ≡ true → on (get_or s j 0) b ≡ true
   down j b h = ⊎_elim

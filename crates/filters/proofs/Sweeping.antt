@@ -1,12 +1,13 @@
 -- The loops that test and strike: what is known after n steps.
-use Rattle.std.proofs.Common.{◌≡◌, ℕ, ◌+◌, ◌<◌, Bool, true, false, List, sum, sym, refl, subst, ⊎_elim, arith, below_more}
-use Rattle.std.proofs.lemmas.Bool.{cases_eq, true≢false}
+use Rattle.std.proofs.Common.{◌≡◌, ℕ, ◌+◌, ◌<◌, Bool, true, false, ◌||◌, List, Ok, Err, Result, IsErr, sum, sym, refl, ◌∙◌, subst, ⊎_elim, arith, below_more}
+use Rattle.std.proofs.Math.Bool.{or-false}
+use Rattle.std.proofs.lemmas.Bool.{cases_eq, false≢true, or_parts, true≢false}
 use Rattle.model.specs.Meaning.{Meaning}
 use Rattle.model.specs.Sets.{In, Less, SomeOn, EachLine}
 use Rattle.filters.specs.Keeping.{Keeps}
-use Rattle.filters.specs.Sweeps.{Tested, LineSwept}
-use Rattle.filters.specs.declared.sweep.Swept.TheVariants.{Clean, Struck}
-use Rattle.filters.proofs.Strikes.{keeps_refl, keeps_trans, less_refl, less_trans}
+use Rattle.filters.specs.Sweeps.{Tested, LineEnd, LineSwept, RoundSwept}
+use Rattle.filters.specs.declared.sweep.Emptied.{Emptied}
+use Rattle.filters.proofs.Strikes.{keeps_trans, less_trans}
 
 -- a sum that fell once more, where the set was as at first or had fallen
 fell_more : (s r r' : List ℕ) (struck : Bool) → (struck ≡ false → r ≡ s) → (struck ≡ true → sum r < sum s) → sum r' < sum r → sum r' < sum s
@@ -22,15 +23,6 @@ pub record LineLoop (m : Meaning) (P : List ℕ → ℕ → ℕ → Type 0) (sel
   pub own : self ≡ false → (k : ℕ) → k < n → In m r i k → P r i k
 
 module _ (m : Meaning) (P : List ℕ → ℕ → ℕ → Type 0) (self : Bool) (i : ℕ) (s : List ℕ) where
-  pub line_start : LineLoop m P self i s s false 0
-  line_start = record {
-    keeps = keeps_refl m P s;
-    less = less_refl m i s;
-    clean = λ e. (refl, λ k h. absurd (omega arith));
-    fell = λ e. absurd (true≢false (sym e));
-    own = λ e k h. absurd (omega arith);
-  }
-
   -- option n stays
   pub line_stay : (r r' : List ℕ) (struck : Bool) (n : ℕ) → LineLoop m P self i s r struck n → Tested m P i n r r' false → LineLoop m P self i s r' struck (n + 1)
   line_stay r r' struck n h t = subst (λ q. LineLoop m P self i s q struck (n + 1)) (sym (t.stays refl).0) (record {
@@ -54,14 +46,21 @@ module _ (m : Meaning) (P : List ℕ → ℕ → ℕ → Type 0) (self : Bool) (
         (λ p. absurd ((t.falls refl).1 p));
   }
 
-  -- all options are tested, and some are struck
-  pub line_struck : (r : List ℕ) (n : ℕ) → n ≡ m.count i → LineLoop m P self i s r true n → LineSwept m P self i s r Struck
-  line_struck r n e h = record {
+  -- all options are tested
+  pub line_end : (r : List ℕ) (struck : Bool) (n : ℕ) → n ≡ m.count i → LineLoop m P self i s r struck n → LineSwept m P self i s r (Ok struck)
+  line_end r struck n e h = record {
     keeps = h.keeps;
     less = h.less;
-    ended = h.fell refl;
-    own = λ f _ a p. h.own f a (subst (λ x. a < x) (sym e) p.1) p;
+    ended = how struck h.clean h.fell;
+    own = λ f a p. h.own f a (within a p) p;
   }
+    where
+      within : (a : ℕ) → In m r i a → a < n
+      within a p = subst (λ x. a < x) (sym e) p.1
+
+      how : (struck : Bool) → (struck ≡ false → (r ≡ s) × ((k : ℕ) → k < n → In m r i k → P r i k)) → (struck ≡ true → (sum r < sum s) × SomeOn m r i) → LineEnd m P i s r (Ok struck)
+      how true clean fell = fell refl
+      how false clean fell = ((clean refl).0, λ a p. (clean refl).1 a (within a p) p)
 
 -- each line still has an option, where only line i lost some and has one left
 pub each_stays : (m : Meaning) (i : ℕ) (s r : List ℕ) → Less m i s r → SomeOn m r i → EachLine m s → EachLine m r
@@ -78,29 +77,28 @@ pub record RoundLoop (m : Meaning) (P : List ℕ → ℕ → ℕ → Type 0) (s 
   pub fell : struck ≡ true → sum r < sum s
 
 module _ (m : Meaning) (P : List ℕ → ℕ → ℕ → Type 0) (s : List ℕ) where
-  pub round_start : EachLine m s → RoundLoop m P s s false 0
-  round_start each = record {
-    keeps = keeps_refl m P s;
-    each = each;
-    clean = λ e. (refl, λ k h. absurd (omega arith));
-    fell = λ e. absurd (true≢false (sym e));
-  }
-
-  pub round_clean : (self : Bool) (r r' : List ℕ) (struck : Bool) (n : ℕ) → RoundLoop m P s r struck n → LineSwept m P self n r r' Clean → RoundLoop m P s r' struck (n + 1)
-  round_clean self r r' struck n h t = subst (λ q. RoundLoop m P s q struck (n + 1)) (sym same) (record {
-    keeps = h.keeps;
-    each = h.each;
-    clean = λ e. ((h.clean e).0, below_more (λ k. (a : ℕ) → In m r k a → P r k a) n (h.clean e).1 (subst (λ q. (a : ℕ) → In m q n a → P q n a) same t.ended.1));
-    fell = h.fell;
-  })
-    where
-      same : r' ≡ r
-      same = t.ended.0
-
-  pub round_strike : (self : Bool) (r r' : List ℕ) (struck : Bool) (n : ℕ) → RoundLoop m P s r struck n → LineSwept m P self n r r' Struck → RoundLoop m P s r' true (n + 1)
-  round_strike self r r' struck n h t = record {
+  -- line n was swept, and `more` says whether options of it were struck
+  pub round_more : (self : Bool) (r r' : List ℕ) (struck more : Bool) (n : ℕ) → RoundLoop m P s r struck n → LineSwept m P self n r r' (Ok more) → RoundLoop m P s r' (struck || more) (n + 1)
+  round_more self r r' struck true n h t = record {
     keeps = keeps_trans m P s r r' h.keeps t.keeps;
     each = each_stays m n r r' t.less t.ended.1 h.each;
-    clean = λ e. absurd (true≢false e);
+    clean = λ e. absurd (true≢false (or_parts struck true e).1);
     fell = λ e. fell_more s r r' struck (λ f. (h.clean f).0) h.fell t.ended.0;
+  }
+  round_more self r r' struck false n h t = subst (λ q. RoundLoop m P s q (struck || false) (n + 1)) (sym t.ended.0) (record {
+    keeps = h.keeps;
+    each = h.each;
+    clean = λ e.
+        let c = h.clean (or_parts struck false e).0 in
+        (c.0, below_more (λ k. (a : ℕ) → In m r k a → P r k a) n c.1 (subst (λ q. (a : ℕ) → In m q n a → P q n a) t.ended.0 t.ended.1));
+    fell = λ e. h.fell (sym (or-false struck) ∙ e);
+  })
+
+  -- line n was left without options
+  pub round_emptied : (self : Bool) (r r' : List ℕ) (struck : Bool) (n : ℕ) (e : Emptied) (how : Result Bool Emptied) → n < m.lines → RoundLoop m P s r struck n
+      → LineSwept m P self n r r' (Err e) → IsErr how → RoundSwept m P s r' how
+  round_emptied self r r' struck n e (Ok b) real h t err = absurd (false≢true err)
+  round_emptied self r r' struck n e (Err d) real h t err = record {
+    keeps = keeps_trans m P s r r' h.keeps t.keeps;
+    ended = (n, real, t.ended);
   }

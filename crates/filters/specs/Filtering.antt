@@ -1,10 +1,11 @@
 -- What a filter leaves of a set s, called r.
-use Rattle.std.specs.Prelude.{ℕ, List}
+use Rattle.std.specs.Prelude.{ℕ, ◌<◌, List, Ok, Err, Result}
 use Rattle.model.specs.Meaning.{Meaning}
-use Rattle.model.specs.Sets.{Plan, Holds, Empty, Full, Largest}
-use Rattle.filters.specs.Keeping.{AsFound}
+use Rattle.model.specs.Sets.{Plan, Holds, NoneOn, Empty, Full, Largest}
+use Rattle.filters.specs.Keeping.{AsFound, Keeps}
 use Rattle.filters.specs.declared.outcome.Outcome.{Outcome}
 use Rattle.filters.specs.declared.outcome.Outcome.TheVariants.{Settled, NoPlan}
+use Rattle.filters.specs.declared.sweep.Emptied.{Emptied}
 
 -- settled: each line has an option left and all options left pass; no plan: no option is left
 abbrev pub Ended : Meaning → (List ℕ → ℕ → ℕ → Type 0) → List ℕ → Outcome → Type 0
@@ -18,3 +19,13 @@ pub record Filtered (m : Meaning) (P : List ℕ → ℕ → ℕ → Type 0) (s r
   pub ended : Ended m P r how
   pub rest : AsFound m s r
   pub plans : (p : ℕ → ℕ) → Plan m p → Holds m s p → Holds m r p
+
+-- how a run ended: each line has an option left and all options left pass, or a line has no option left
+abbrev pub RunEnd : Meaning → (List ℕ → ℕ → ℕ → Type 0) → List ℕ → Result (Unit {0}) Emptied → Type 0
+RunEnd m P r (Ok _) = Full m P r
+RunEnd m P r (Err _) = (i : ℕ) × (i < m.lines) × NoneOn m r i
+
+-- options of s were struck until the run ended
+pub record Ran (m : Meaning) (P : List ℕ → ℕ → ℕ → Type 0) (s r : List ℕ) (how : Result (Unit {0}) Emptied) : Type 0 where
+  pub keeps : Keeps m P s r
+  pub ended : RunEnd m P r how

@@ -1,8 +1,8 @@
 -- Striking options of a set s so that no good subset loses any, which leaves r.
-use Rattle.std.specs.Prelude.{◌≡◌, ℕ, ◌<◌, List, slice_index}
+use Rattle.std.specs.Prelude.{◌≡◌, ℕ, List, slice_index}
 use Rattle.bits.specs.Bits.{on}
 use Rattle.model.specs.Meaning.{Meaning, Is}
-use Rattle.model.specs.Sets.{Sub, NoneOn, Full}
+use Rattle.model.specs.Sets.{Sub, Full}
 
 -- the bits that stand for no existing option are in r as in s: those at or above a line's count, and
 -- all of the words past the last line
@@ -14,10 +14,3 @@ pub record Keeps (m : Meaning) (P : List ℕ → ℕ → ℕ → Type 0) (s r : 
   pub sub : Sub m r s
   pub holds : (t : List ℕ) → Full m P t → Sub m t s → Sub m t r
   pub rest : AsFound m s r
-
--- and a line has no option left in r
-pub record EmptiedLine (m : Meaning) (P : List ℕ → ℕ → ℕ → Type 0) (s r : List ℕ) : Type 0 where
-  pub keeps : Keeps m P s r
-  pub line : ℕ
-  pub real : line < m.lines
-  pub none : NoneOn m r line

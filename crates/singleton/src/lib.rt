@@ -89,9 +89,6 @@ impl<L: Level> Level for Singleton<L> {
     }
 
     fn passes(&self, set: &[u64], line: usize, option: usize) -> bool {
-        match self.trial(set, line, option) {
-            Some(_) => true,
-            None => false,
-        }
+        self.trial(set, line, option).is_some()
     }
 }

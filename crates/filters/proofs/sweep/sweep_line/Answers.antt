@@ -1,8 +1,8 @@
-use Rattle.std.proofs.Common.{◌≡◌, ℕ, ◌+◌, false, List, sym, refl, subst, rules}
+use Rattle.std.proofs.Common.{◌≡◌, ℕ, ◌+◌, false, List, sym, subst, rules}
 use Rattle.model.specs.Sets.{In, Less}
 use Rattle.filters.specs.Sweeps.{Tested}
 use Rattle.filters.proofs.Strikes.{keeps_trans, less_trans}
-use Rattle.filters.proofs.Sweeping.{LineLoop, line_stay, line_strike, line_struck}
+use Rattle.filters.proofs.Sweeping.{LineLoop, line_stay, line_strike, line_end}
 use Rattle.filters.proofs.sweep.sweep_line.Goals as goal
 use Rattle.filters.proofs.sweep.sweep_line.Goals.{then-test_option+else-line_empty, else-test_option}
 
@@ -18,7 +18,7 @@ returns-then-line_empty g c =
       keeps = keeps_trans m P s r r' c.loop-a.invariant.keeps c.test_option.ensures.keeps;
       less = less_trans m c.args.line s r r' c.loop-a.invariant.less c.test_option.ensures.less;
       ended = c.if-line_empty.ensures;
-      own = λ e other. absurd (other refl);
+      own = λ _. tt;
     }
 
 pub loop-a-preserved : goal.loop-a-preserved
@@ -45,14 +45,11 @@ loop-a-preserved g c =
           (subst (λ b. Tested m P i n r r' b) w.if-test_option.false c.test_option.ensures))
     ]
 
--- all options were tested, and some were struck
-pub returns-then-struck : goal.returns-then-struck
-returns-then-struck g c =
+-- all options were tested
+pub returns : goal.returns
+returns g c =
     let x = c.args.level.now in
     let m = g.L.Level.meaning x in
-    let P = g.L.Level.passing x in
     let i = c.args.line in
-    let self = g.L.Level.touching x i i in
     let all : c.loop-a.a ≡ m.count i = search rules in
-    line_struck m P self i c.args.set.now c.loop-a.set c.loop-a.a all
-    (subst (λ b. LineLoop m P self i c.args.set.now c.loop-a.set b c.loop-a.a) c.if-struck.true c.loop-a.invariant)
+    line_end m (g.L.Level.passing x) (g.L.Level.touching x i i) i c.args.set.now c.loop-a.set c.loop-a.struck c.loop-a.a all c.loop-a.invariant

@@ -2,13 +2,8 @@ use Rattle.std.proofs.Common.{◌≡◌, true, get_or, sym, ap, ◌∙◌, subst
 use Rattle.std.proofs.lemmas.Bool.{both_ways, true≢false}
 use Rattle.bits.specs.Bits.{on}
 use Rattle.filters.specs.Sweeps.{Tested}
-use Rattle.filters.proofs.Strikes.{line_within, struck_falls, struck_keeps, struck_less, struck_out}
+use Rattle.filters.proofs.Strikes.{struck_falls, struck_keeps, struck_less, struck_out}
 use Rattle.filters.proofs.sweep.test_option.Goals as goal
-
-pub strike-requires : goal.strike-requires
-strike-requires g c =
-    let a = c.args.option in
-    line_within c.args.set.now c.args.line a (ap (λ w. on w a) (sym c.word.ensures) ∙ sym c.if-not-has.ensures)
 
 -- the option stands and fails
 pub returns : goal.returns
