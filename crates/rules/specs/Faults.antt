@@ -1,5 +1,6 @@
 -- Faults of the parts of a source, and which of them is told.
-use Rattle.std.specs.Prelude.{◌≡◌, ℕ, zero, suc, ◌<◌, Bool, true, false, ◌⊎◌, List, [], ◌∷◌, Ok, Err, Result}
+use Rattle.std.specs.Prelude.{◌≡◌, ℕ, zero, suc, ◌<◌, Bool, true, false, ◌⊎◌, List, [], ◌∷◌, ◌++◌, codes, Ok, Err, Result}
+use Rattle.std.specs.Fmt.{decimal}
 use Rattle.model.specs.Meaning.{Meaning}
 use Rattle.model.specs.Making.{bare}
 use Rattle.rules.specs.declared.fault.SourceFault.{SourceFault}
@@ -31,6 +32,10 @@ concerned (Words r) = r
 concerned (Counts i) = i
 concerned Memory = 0
 
+-- what is printed of a fault: its number, a blank and the line or record concerned
+abbrev pub refusal : SourceFault → List ℕ
+refusal f = decimal (number f) ++ codes " " ++ decimal (concerned f)
+
 -- whether there is an element at place p that has the flaw
 abbrev pub flawed_at : {X : Type 0} → (X → Bool) → List X → ℕ → Bool
 flawed_at flawed [] p = false
@@ -53,6 +58,11 @@ Faulty there = (f : SourceFault) × (there f ≡ true)
 abbrev pub FirstFault : (SourceFault → Bool) → Result (Unit {0}) SourceFault → Type 0
 FirstFault there (Ok u) = Sound there
 FirstFault there (Err f) = (there f ≡ true) × ((g : SourceFault) → Before g f → there g ≡ false)
+
+-- of the faults of number n, r tells the first; it is `Ok` where there is none
+abbrev pub FirstOf : (SourceFault → Bool) → ℕ → Result (Unit {0}) SourceFault → Type 0
+FirstOf there n (Ok u) = (f : SourceFault) → number f ≡ n → there f ≡ false
+FirstOf there n (Err f) = (number f ≡ n) × (there f ≡ true) × ((g : SourceFault) → number g ≡ n → concerned g < concerned f → there g ≡ false)
 
 -- a source that parts make means m, or is the bare source where there is a fault in them
 pub record Makes (there : SourceFault → Bool) (m made : Meaning) : Type 0 where
