@@ -28,8 +28,7 @@ fn clear(words: &mut Vec<u64>, at: usize, b: usize)
     requires { at < vec_len words.old }
     ensures { words.new.items ≡ clear_at words.old.items at b }
 {
-    let w = words[at];
-    words[at] = without(w, b);
+    words[at] = without(words[at], b);
 }
 
 // Marks line b as joined with the line at a place.
@@ -64,10 +63,11 @@ fn free_word(counts: &[usize], i: usize, a: usize, j: usize) -> u64
     requires { counts_ok counts.now ≡ true }
     ensures { (b : ℕ) → on result b ≡ two_options counts.now i a j b }
 {
-    if i >= counts.len() || j >= counts.len() || i == j || a >= counts[i] {
-        return 0;
+    if names_two(counts.len(), i, j) && a < counts[i] {
+        ones(counts[j])
+    } else {
+        0
     }
-    ones(counts[j])
 }
 
 // All words where there are no rules.
