@@ -59,11 +59,6 @@ abbrev pub FirstFault : (SourceFault → Bool) → Result (Unit {0}) SourceFault
 FirstFault there (Ok u) = Sound there
 FirstFault there (Err f) = (there f ≡ true) × ((g : SourceFault) → Before g f → there g ≡ false)
 
--- of the faults of number n, r tells the first; it is `Ok` where there is none
-abbrev pub FirstOf : (SourceFault → Bool) → ℕ → Result (Unit {0}) SourceFault → Type 0
-FirstOf there n (Ok u) = (f : SourceFault) → number f ≡ n → there f ≡ false
-FirstOf there n (Err f) = (number f ≡ n) × (there f ≡ true) × ((g : SourceFault) → number g ≡ n → concerned g < concerned f → there g ≡ false)
-
 -- a source that parts make means m, or is the bare source where there is a fault in them
 pub record Makes (there : SourceFault → Bool) (m made : Meaning) : Type 0 where
   pub sound : Sound there → made ≡ m

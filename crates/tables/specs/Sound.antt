@@ -1,4 +1,4 @@
--- What the words of parts without faults mean.
+-- The words of parts without faults mean what the parts mean.
 use Rattle.std.proofs.Common.{◌≡◌, ℕ, suc, true, false, ◌&&◌, ltb, leb, List, [], ◌∷◌, length, fold, refl}
 use Rattle.std.proofs.lemmas.Bool.{and_parts, and_from, not-false}
 use Rattle.model.specs.Making.{counts_ok}
@@ -9,10 +9,7 @@ use Rattle.supports.specs.Adding.{fit, adding_if, unruled}
 use Rattle.supports.proofs.Folding.{all_added_if}
 use Rattle.tables.specs.declared.records.TableRecord.{TableRecord}
 use Rattle.tables.specs.Faults.{bad_count, table_fault}
-use Rattle.tables.specs.Tables.{record_allows, table_meaning}
-
-abbrev pub no_record : TableRecord
-no_record = record { first = 0; second = 0; start = 0 }
+use Rattle.tables.specs.Tables.{record_allows, table_meaning, table_words}
 
 counts_right : (cs : List ℕ) → ((p : ℕ) → flawed_at bad_count cs p ≡ false) → counts_ok cs ≡ true
 counts_right [] none = refl
@@ -24,5 +21,5 @@ module _ (cs : List ℕ) (rs : List TableRecord) (ws : List ℕ) (sound : (f : S
       let p = and_parts (ltb 0 (length cs)) (leb (length cs) 128) (not-false (ltb 0 (length cs) && leb (length cs) 128) (sound Lines)) in
       and_from (ltb 0 (length cs)) (leb (length cs) 128 && counts_ok cs) p.0 (and_from (leb (length cs) 128) (counts_ok cs) p.1 (counts_right cs (λ p. sound (Span p))))
 
-  pub all_records : fold (adding_if (λ (r : TableRecord). r.first) (λ (r : TableRecord). r.second) (record_allows ws)) (unruled cs) rs ≡ table_meaning cs rs ws
+  pub all_records : table_words cs rs ws ≡ table_meaning cs rs ws
   all_records = all_added_if (λ (r : TableRecord). r.first) (λ (r : TableRecord). r.second) (record_allows ws) cs rs fits (λ p. sound (Names p))
