@@ -1,4 +1,4 @@
--- What the words of parts without faults mean.
+-- The words of parts without faults mean what the parts mean.
 use Rattle.std.proofs.Common.{◌≡◌, ℕ, suc, ◌+◌, true, false, not, ◌&&◌, ltb, leb, List, [], ◌∷◌, length, ℤ, pos, fold, refl, ap, ◌∙◌}
 use lib.ListN.{length-map}
 use Rattle.std.proofs.lemmas.Bool.{and_parts, and_from, not-false}
@@ -11,10 +11,7 @@ use Rattle.supports.proofs.Folding.{all_added_if}
 use Rattle.formula.specs.declared.records.LineRecord.{LineRecord}
 use Rattle.formula.specs.declared.records.RuleRecord.{RuleRecord}
 use Rattle.formula.specs.Faults.{bad_span, formula_fault}
-use Rattle.formula.specs.Formulas.{counts_of, rule_allows, formula_meaning}
-
-abbrev pub no_rule : RuleRecord
-no_rule = record { kind = 0; first = 0; second = 0; k = pos 0; m = pos 0 }
+use Rattle.formula.specs.Formulas.{counts_of, rule_allows, formula_meaning, formula_words}
 
 counts_right : (len : ℕ) (ls : List LineRecord) → ((p : ℕ) → flawed_at (bad_span len) ls p ≡ false) → counts_ok (counts_of ls) ≡ true
 counts_right len [] none = refl
@@ -33,6 +30,6 @@ module _ (ls : List LineRecord) (vs : List ℤ) (rs : List RuleRecord) (sound : 
       and_from (ltb 0 (length (counts_of ls))) (leb (length (counts_of ls)) 128 && counts_ok (counts_of ls)) (ap (ltb 0) same_length ∙ p.0)
       (and_from (leb (length (counts_of ls)) 128) (counts_ok (counts_of ls)) (ap (λ n. leb n 128) same_length ∙ p.1) (counts_right (length vs) ls (λ p. sound (Span p))))
 
-  pub all_rules : fold (adding_if (λ (r : RuleRecord). r.first) (λ (r : RuleRecord). r.second) (rule_allows ls vs)) (unruled (counts_of ls)) rs ≡ formula_meaning ls vs rs
+  pub all_rules : formula_words ls vs rs ≡ formula_meaning ls vs rs
   all_rules = all_added_if (λ (r : RuleRecord). r.first) (λ (r : RuleRecord). r.second) (rule_allows ls vs) (counts_of ls) rs fits
       (λ p. ap (λ n. flawed_at (λ (r : RuleRecord). not (two_of n r.first r.second)) rs p) same_length ∙ sound (Names p))
