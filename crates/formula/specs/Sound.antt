@@ -1,12 +1,12 @@
 -- The words of parts without faults mean what the parts mean.
-use Rattle.std.proofs.Common.{◌≡◌, ℕ, suc, ◌+◌, true, false, not, ◌&&◌, ltb, leb, List, [], ◌∷◌, length, ℤ, pos, fold, refl, ap, ◌∙◌}
+use Rattle.std.proofs.Common.{◌≡◌, ℕ, suc, ◌+◌, true, false, not, ◌&&◌, ltb, leb, List, [], ◌∷◌, length, ℤ, refl, ap, ◌∙◌}
 use lib.ListN.{length-map}
 use Rattle.std.proofs.lemmas.Bool.{and_parts, and_from, not-false}
 use Rattle.model.specs.Making.{counts_ok, two_of}
 use Rattle.rules.specs.declared.fault.SourceFault.{SourceFault}
 use Rattle.rules.specs.declared.fault.SourceFault.TheVariants.{Lines, Span, Names}
 use Rattle.rules.specs.Faults.{flawed_at}
-use Rattle.supports.specs.Adding.{fit, adding_if, unruled}
+use Rattle.supports.specs.Adding.{fit}
 use Rattle.supports.proofs.Folding.{all_added_if}
 use Rattle.formula.specs.declared.records.LineRecord.{LineRecord}
 use Rattle.formula.specs.declared.records.RuleRecord.{RuleRecord}

@@ -1,5 +1,5 @@
 -- The first fault, found number by number.
-use Rattle.std.proofs.Common.{◌≡◌, ℕ, ◌+◌, ◌<◌, Bool, true, false, cond, eqb, ◌⊎◌, List, Some, None, Ok, Err, sym, refl, ap, ◌∙◌, inl, inr, ⊎_elim, zero-le, arith}
+use Rattle.std.proofs.Common.{◌≡◌, ℕ, ◌+◌, ◌<◌, Bool, true, false, cond, eqb, ◌⊎◌, List, Some, None, Ok, Err, refl, ap, ◌∙◌, inl, inr, ⊎_elim, zero-le, arith}
 use Rattle.std.specs.List.{position}
 use Rattle.std.proofs.lemmas.Bool.{cases_lt}
 use Rattle.rules.specs.declared.fault.SourceFault.{SourceFault}
@@ -83,7 +83,7 @@ module _ (there : SourceFault → Bool) where
           λ g before. ⊎_elim
               (λ (lt : number g < number (fault_of n p)). clear.none g (omega (arith, lt, en)))
               (λ (w : (number g ≡ number (fault_of n p)) × (concerned g < concerned (fault_of n p))).
-                at_number n g (w.0 ∙ en) ∙ at (concerned g) ∙ least.2 (concerned g) zero-le (omega (arith, w.1, ep))) before,
+              at_number n g (w.0 ∙ en) ∙ at (concerned g) ∙ least.2 (concerned g) zero-le (omega (arith, w.1, ep))) before,
         )
 
     -- no place has it

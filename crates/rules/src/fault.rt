@@ -81,7 +81,7 @@ impl Error for SourceFault {}
 impl From<AllocError> for SourceFault {
     ghost from_gives = { λ _ fault. fault ≡ Memory };
 
-    fn from(_e: AllocError) -> SourceFault {
-        SourceFault::Memory
+    fn from(_e: AllocError) -> Self {
+        Self::Memory
     }
 }

@@ -1,9 +1,6 @@
 -- Several lines, and their option counts and words of joined lines.
-use Rattle.std.proofs.Common.{◌≡◌, ℕ, zero, suc, ◌<◌, List, [], ◌∷◌, length, get_or, set, map, replicate, sym, refl, ap, ◌∙◌}
-use Rattle.std.proofs.lemmas.List.{map-set}
+use Rattle.std.proofs.Common.{◌≡◌, ℕ, List, [], ◌∷◌, length, get_or, map, replicate, refl, ap}
 use Rattle.std.proofs.Math.ListN.{get_or-map}
-use Rattle.model.specs.Words.{mark_at}
-use Rattle.bits.specs.Bits.{marked}
 use Rattle.supports.specs.declared.supports.Line.{Line}
 use Rattle.supports.specs.Lines.{counts_of, joins_of, no_line}
 

@@ -40,4 +40,3 @@ module _ (cs : List ℕ) (rs : List TableRecord) (ws : List ℕ) where
 
   pub all_right : Clear there 8 → None ≡ position (bad_words cs (length ws)) rs → FirstFault there (Ok tt)
   all_right clear none = clear_all there (clear_more there 9 (clear_flaw there (bad_words cs (length ws)) rs 8 (λ p. refl) clear none) (λ p. refl)) refl
-

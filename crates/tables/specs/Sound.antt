@@ -1,11 +1,11 @@
 -- The words of parts without faults mean what the parts mean.
-use Rattle.std.proofs.Common.{◌≡◌, ℕ, suc, true, false, ◌&&◌, ltb, leb, List, [], ◌∷◌, length, fold, refl}
+use Rattle.std.proofs.Common.{◌≡◌, ℕ, suc, true, false, ◌&&◌, ltb, leb, List, [], ◌∷◌, length, refl}
 use Rattle.std.proofs.lemmas.Bool.{and_parts, and_from, not-false}
 use Rattle.model.specs.Making.{counts_ok}
 use Rattle.rules.specs.declared.fault.SourceFault.{SourceFault}
 use Rattle.rules.specs.declared.fault.SourceFault.TheVariants.{Lines, Span, Names}
 use Rattle.rules.specs.Faults.{flawed_at}
-use Rattle.supports.specs.Adding.{fit, adding_if, unruled}
+use Rattle.supports.specs.Adding.{fit}
 use Rattle.supports.proofs.Folding.{all_added_if}
 use Rattle.tables.specs.declared.records.TableRecord.{TableRecord}
 use Rattle.tables.specs.Faults.{bad_count, table_fault}

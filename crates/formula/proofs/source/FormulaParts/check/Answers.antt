@@ -1,4 +1,4 @@
-use Rattle.std.proofs.Common.{length, arith}
+use Rattle.std.proofs.Common.{arith}
 use Rattle.formula.proofs.Checks.{lines_right, span_told, spans_right, values_told, values_right, rules_told, rules_right, names_told, names_right, kind_told, kinds_right, range_told, all_right}
 use Rattle.formula.proofs.source.FormulaParts.check.Goals as goal
 

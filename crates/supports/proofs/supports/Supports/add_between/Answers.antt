@@ -6,7 +6,7 @@ use Rattle.model.proofs.Parts.{rows, part_frame, join_facts, rows_start, rows_st
 use Rattle.supports.specs.declared.supports.Line.{Line}
 use Rattle.supports.specs.declared.supports.Supports.{Supports}
 use Rattle.supports.specs.Lines.{no_line}
-use Rattle.supports.specs.Held.{counts, joins, held, supports_meaning}
+use Rattle.supports.specs.Held.{counts, held, supports_meaning}
 use Rattle.supports.proofs.Lines.{count_is}
 use Rattle.supports.proofs.Indices.{many}
 use Rattle.supports.proofs.supports.Supports.add_between.Goals as goal

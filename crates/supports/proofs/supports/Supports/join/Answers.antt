@@ -1,6 +1,5 @@
-use Rattle.std.proofs.Common.{◌≡◌, ℕ, ◌<◌, List, length, get_or, vec_items, sym, subst, ap, ◌∙◌, arith, length-set}
+use Rattle.std.proofs.Common.{◌≡◌, ℕ, ◌<◌, List, length, vec_items, sym, subst, ap, ◌∙◌, arith}
 use Rattle.std.proofs.lemmas.List.{length-map}
-use Rattle.bits.specs.Bits.{marked}
 use Rattle.model.specs.Making.{with_join}
 use Rattle.model.specs.Words.{words_meaning, mark_at}
 use Rattle.model.proofs.Steps.{Made, join_made}

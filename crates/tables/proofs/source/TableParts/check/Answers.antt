@@ -1,4 +1,4 @@
-use Rattle.std.proofs.Common.{length, arith}
+use Rattle.std.proofs.Common.{arith}
 use Rattle.tables.proofs.Checks.{lines_right, count_told, counts_right, records_told, records_right, names_told, names_right, words_told, all_right}
 use Rattle.tables.proofs.source.TableParts.check.Goals as goal
 
