@@ -17,11 +17,8 @@ few_lines s = (held s).lawful.limits.few_lines
 
 -- n is the number of lines
 pub record Within (s : Supports) (n i a j : ℕ) : Type 0 where
-  pub row : i * s.width ≤ 8192
-  pub option : i * s.width + a ≤ 8256
   pub before : (i * s.width + a) * n ≤ 1056768
   pub last : j ≤ 128
-  pub is : (i * s.width + a) * n + j ≡ place (length (counts s)) s.width i a j
   pub inside : (i * s.width + a) * n + j < vec_len s.words
 
 pub within : (s : Supports) (n i a j : ℕ) → n ≡ vec_len s.lines → i < length (counts s) → j < length (counts s) → a < s.width → Within s n i a j
@@ -32,10 +29,7 @@ within s n i a j en h g k =
     let row : i * s.width ≤ 8192 = mul-le i s.width 128 64 (omega arith) sized.width_le in
     let p : (i * s.width + a) * n + j ≡ place (length (counts s)) s.width i a j = ap (λ x. (i * s.width + a) * x + j) e in
     record {
-      row = row;
-      option = omega (arith, sized.width_le);
       before = mul-le (i * s.width + a) n 8256 128 (omega (arith, sized.width_le)) (omega arith);
       last = omega arith;
-      is = p;
       inside = omega (arith, p, s.words.ok.0, sized.words_len, places.place_lt (length (counts s)) s.width i a j h k g);
     }

@@ -14,6 +14,8 @@ use rules::source::RuleSource;
 use std::alloc::{AllocError, Global};
 
 // A rule between two lines.
+// Kept: a closure in its place needs a `requires` that it may be called and answers alike each time, and no
+// public function has one.
 pub trait PairRule {
     // Whether it allows an option of the first line with one of the second.
     ghost permits: { Self → ℕ → ℕ → Bool };
@@ -80,6 +82,7 @@ fn free_words(heap: Global, counts: &[usize], width: usize) -> Result<Vec<u64>, 
 {
     let lines = counts.len();
     let places = lines * width * lines;
+    // Kept: `collect` would tell the words as a list of values, and the contract tells each by its bits.
     let mut words = Vec::with_capacity(heap, places)?;
     for p in 0..places {
         let row = p / lines;

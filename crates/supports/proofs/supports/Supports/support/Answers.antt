@@ -16,11 +16,6 @@ returns-then-i-lines c b =
       | then-i-lines-via-else-i-lines+else-j-lines+then-a-self w ↦ omega (arith, w.if-a-self.true)
     ])
 
-pub place_of-requires : goal.place_of-requires
-place_of-requires c =
-    let s = c.args.self.now in
-    record { first = omega (arith, many s); second = omega (arith, many s); option = omega arith }
-
 pub returns : goal.returns
 returns c b =
     let s = c.args.self.now in
