@@ -2,7 +2,7 @@
 ghost use Rattle.std.specs.Prelude.{◌≡◌, length, negsuc, position};
 ghost use Rattle.formula.specs.Faults.{bad_kind, bad_names, bad_range, bad_span, bad_values, rising};
 
-use crate::records::{LineRecord, RuleRecord};
+use crate::records::{Formula, LineRecord, RuleRecord};
 use kinds::kind::Kind;
 use rules::parts::{ends_inside, names_two};
 
@@ -51,39 +51,44 @@ fn has_bad_range(r: RuleRecord) -> bool
     Kind::numbered(r.kind).is_some_and(|kind| !kind.takes(r.k, r.m))
 }
 
-// The first line whose span is bad in a run of len values.
-pub(crate) fn first_bad_span(len: usize, lines: &[LineRecord]) -> Option<usize>
-    ensures { result ≡ position (bad_span len) lines.now }
-{
-    lines.iter().position(|l| has_bad_span(len, *l))
-}
+impl<'a> Formula<'a> {
+    // The first line whose span is bad.
+    pub(crate) fn first_bad_span(&self) -> Option<usize>
+        ensures { result ≡ position (bad_span (length self.now.values.now)) self.now.lines.now }
+    {
+        let len = self.values.len();
+        self.lines.iter().position(|l| has_bad_span(len, *l))
+    }
 
-// The first line whose values are out of range or do not rise.
-pub(crate) fn first_bad_values(values: &[i32], lines: &[LineRecord]) -> Option<usize>
-    ensures { result ≡ position (bad_values values.now) lines.now }
-{
-    lines.iter().position(|l| has_bad_values(values, *l))
-}
+    // The first line whose values are out of range or do not rise.
+    pub(crate) fn first_bad_values(&self) -> Option<usize>
+        ensures { result ≡ position (bad_values self.now.values.now) self.now.lines.now }
+    {
+        let values = self.values;
+        self.lines.iter().position(|l| has_bad_values(values, *l))
+    }
 
-// The first rule that names a missing line, or one line twice.
-pub(crate) fn first_bad_names(lines: usize, rules: &[RuleRecord]) -> Option<usize>
-    ensures { result ≡ position (bad_names lines) rules.now }
-{
-    rules
-        .iter()
-        .position(|r| !names_two(lines, r.first, r.second))
-}
+    // The first rule that names a missing line, or one line twice.
+    pub(crate) fn first_bad_names(&self) -> Option<usize>
+        ensures { result ≡ position (bad_names (length self.now.lines.now)) self.now.rules.now }
+    {
+        let lines = self.lines.len();
+        self.rules
+            .iter()
+            .position(|r| !names_two(lines, r.first, r.second))
+    }
 
-// The first rule whose kind is not 1 to 5.
-pub(crate) fn first_bad_kind(rules: &[RuleRecord]) -> Option<usize>
-    ensures { result ≡ position bad_kind rules.now }
-{
-    rules.iter().position(|r| has_bad_kind(*r))
-}
+    // The first rule whose kind is not 1 to 5.
+    pub(crate) fn first_bad_kind(&self) -> Option<usize>
+        ensures { result ≡ position bad_kind self.now.rules.now }
+    {
+        self.rules.iter().position(|r| has_bad_kind(*r))
+    }
 
-// The first rule whose k or m is out of the range of its kind.
-pub(crate) fn first_bad_range(rules: &[RuleRecord]) -> Option<usize>
-    ensures { result ≡ position bad_range rules.now }
-{
-    rules.iter().position(|r| has_bad_range(*r))
+    // The first rule whose k or m is out of the range of its kind.
+    pub(crate) fn first_bad_range(&self) -> Option<usize>
+        ensures { result ≡ position bad_range self.now.rules.now }
+    {
+        self.rules.iter().position(|r| has_bad_range(*r))
+    }
 }

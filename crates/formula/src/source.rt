@@ -6,9 +6,6 @@ ghost use Rattle.formula.specs.Sound.{all_rules};
 ghost use Rattle.supports.specs.Adding.{adding_if};
 ghost use Rattle.supports.specs.Held.{supports_meaning};
 
-use crate::check::{
-    first_bad_kind, first_bad_names, first_bad_range, first_bad_span, first_bad_values,
-};
 use crate::records::{Formula, LineRecord, RuleRecord};
 use kinds::kind::Kind;
 use rules::fault::SourceFault;
@@ -17,13 +14,6 @@ use std::alloc::{AllocError, Global};
 use supports::making::PairRule;
 use supports::parts::Parts;
 use supports::supports::Supports;
-
-// Where the values of a line start; 0 for a missing line.
-fn start_of(lines: &[LineRecord], line: usize) -> usize
-    ensures { result ≡ (get_or lines.now line no_line).start }
-{
-    item_or(lines, line, LineRecord { start: 0, count: 0 }).start
-}
 
 // Whether a rule of the kind, if there is one, allows the values x and y.
 fn is_allowed(kind: Option<Kind>, k: i32, m: i32, x: i32, y: i32) -> bool
@@ -53,26 +43,35 @@ impl<'a> PairRule for RulePair<'a> {
     }
 }
 
-// The option counts of the lines.
-fn counts(heap: Global, lines: &[LineRecord]) -> Result<Vec<usize>, AllocError>
-    ensures { IfOk result (λ v. v.items ≡ counts_of lines.now) }
-{
-    lines.iter().map(|l| l.count).collect(heap)
-}
+impl<'a> Formula<'a> {
+    // The option counts of the lines.
+    fn counts(&self, heap: Global) -> Result<Vec<usize>, AllocError>
+        ensures { IfOk result (λ v. v.items ≡ counts_of self.now.lines.now) }
+    {
+        self.lines.iter().map(|l| l.count).collect(heap)
+    }
 
-// Adds a rule to the words, if its lines exist and differ.
-fn add_rule(words: &mut Supports, lines: &[LineRecord], values: &[i32], rule: RuleRecord)
-    ensures { supports_meaning words.new ≡ adding_if (λ r. r.first) (λ r. r.second) (rule_allows lines.now values.now) (supports_meaning words.old) rule }
-{
-    let pair = RulePair {
-        values,
-        kind: Kind::numbered(rule.kind),
-        k: rule.k,
-        m: rule.m,
-        from: start_of(lines, rule.first),
-        to: start_of(lines, rule.second),
-    };
-    words.add(rule.first, rule.second, &pair);
+    // Where the values of a line start; 0 for a missing line.
+    fn start_of(&self, line: usize) -> usize
+        ensures { result ≡ (get_or self.now.lines.now line no_line).start }
+    {
+        item_or(self.lines, line, LineRecord { start: 0, count: 0 }).start
+    }
+
+    // Adds a rule to the words, if its lines exist and differ.
+    fn add(&self, words: &mut Supports, rule: RuleRecord)
+        ensures { supports_meaning words.new ≡ adding_if (λ r. r.first) (λ r. r.second) (rule_allows self.now.lines.now self.now.values.now) (supports_meaning words.old) rule }
+    {
+        let pair = RulePair {
+            values: self.values,
+            kind: Kind::numbered(rule.kind),
+            k: rule.k,
+            m: rule.m,
+            from: self.start_of(rule.first),
+            to: self.start_of(rule.second),
+        };
+        words.add(rule.first, rule.second, &pair);
+    }
 }
 
 // A source of lines of values and rules between them, compiled.
@@ -92,32 +91,32 @@ impl<'a> Parts for Formula<'a> {
         if lines == 0 || lines > 128 {
             return Err(SourceFault::Lines);
         }
-        if let Some(line) = first_bad_span(self.values.len(), self.lines) {
+        if let Some(line) = self.first_bad_span() {
             return Err(SourceFault::Span(line));
         }
-        if let Some(line) = first_bad_values(self.values, self.lines) {
+        if let Some(line) = self.first_bad_values() {
             return Err(SourceFault::Values(line));
         }
         if self.rules.len() > 2048 {
             return Err(SourceFault::Records);
         }
-        if let Some(at) = first_bad_names(lines, self.rules) {
+        if let Some(at) = self.first_bad_names() {
             return Err(SourceFault::Names(at));
         }
-        if let Some(at) = first_bad_kind(self.rules) {
+        if let Some(at) = self.first_bad_kind() {
             return Err(SourceFault::Kind(at));
         }
-        if let Some(at) = first_bad_range(self.rules) {
+        if let Some(at) = self.first_bad_range() {
             return Err(SourceFault::Range(at));
         }
         Ok(())
     }
 
     fn compile(&self, heap: Global) -> Result<Supports, AllocError> {
-        let counts = counts(heap, self.lines)?;
+        let counts = self.counts(heap)?;
         let mut words = Supports::free(heap, &counts)?;
         for r in self.rules {
-            add_rule(&mut words, self.lines, self.values, *r);
+            self.add(&mut words, *r);
         }
         Ok(words)
     }

@@ -5,7 +5,6 @@ ghost use Rattle.tables.specs.Sound.{all_records};
 ghost use Rattle.tables.specs.Faults.{table_fault};
 ghost use Rattle.tables.specs.Tables.{table_meaning, table_words};
 
-use crate::check::{first_bad_count, first_bad_names, first_bad_words};
 use crate::records::Table;
 use bits::has;
 use rules::fault::SourceFault;
@@ -47,16 +46,16 @@ impl<'a> Parts for Table<'a> {
         if lines == 0 || lines > 128 {
             return Err(SourceFault::Lines);
         }
-        if let Some(line) = first_bad_count(self.counts) {
+        if let Some(line) = self.first_bad_count() {
             return Err(SourceFault::Span(line));
         }
         if self.records.len() > 2048 {
             return Err(SourceFault::Records);
         }
-        if let Some(at) = first_bad_names(lines, self.records) {
+        if let Some(at) = self.first_bad_names() {
             return Err(SourceFault::Names(at));
         }
-        if let Some(at) = first_bad_words(self.counts, self.words.len(), self.records) {
+        if let Some(at) = self.first_bad_words() {
             return Err(SourceFault::Words(at));
         }
         Ok(())
