@@ -4,13 +4,14 @@
 
 use filters::outcome::Outcome;
 use filters::rounds::by_rounds;
-use formula::records::{LineRecord, RuleRecord};
+use formula::records::{Formula, LineRecord, RuleRecord};
 use formula::source::FormulaSource;
 use kinds::kind::Kind;
 use levels::arc::Arc;
 use rules::fault::SourceFault;
 use rules::source::RuleSource;
 use std::alloc::Global;
+use supports::parts::Parts;
 
 const LANES: usize = 8;
 
@@ -45,7 +46,12 @@ fn circuit(heap: Global, rules: &[RuleRecord]) -> Result<FormulaSource, SourceFa
         GRADE, GRADE, GRADE, GRADE, GRADE, GRADE, GRADE, GRADE, COLOUR, COLOUR, COLOUR, COLOUR,
         COLOUR, COLOUR, COLOUR, COLOUR,
     ];
-    FormulaSource::new(heap, &lines, &VALUES, rules)
+    let parts = Formula {
+        lines: &lines,
+        values: &VALUES,
+        rules,
+    };
+    parts.source(heap)
 }
 
 fn rules() -> [RuleRecord; 19] {
@@ -184,9 +190,7 @@ fn run(rt: &HostRuntime) -> anyhow::Result<()> {
     let source = match circuit(rt.alloc(), &rules) {
         Ok(source) => source,
         Err(fault) => {
-            let number = fault.number();
-            let concerned = fault.concerned();
-            println!(rt; "refused {number} {concerned}")?;
+            println!(rt; "refused {fault}")?;
             return Ok(());
         }
     };

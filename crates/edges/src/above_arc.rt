@@ -2,7 +2,7 @@
 use filters::outcome::Outcome;
 use filters::queue::by_queue;
 use filters::rounds::by_rounds;
-use formula::records::{LineRecord, RuleRecord};
+use formula::records::{Formula, LineRecord, RuleRecord};
 use formula::source::FormulaSource;
 use levels::arc::Arc;
 use levels::level::Level;
@@ -10,6 +10,7 @@ use neighbourhood::Neighbourhood;
 use singleton::Singleton;
 use std::process::Abort;
 use std::test::Fail;
+use supports::parts::Parts;
 
 // So many lines in a ring, each with the values 0, 1 and so on. Two lines differ if they are at most
 // `reach` steps apart.
@@ -38,7 +39,12 @@ fn ring(
         start: 0,
         count: options
     }; lines]?;
-    Ok(FormulaSource::new(rt.alloc(), &all, &[0, 1, 2, 3], &rules)?)
+    let parts = Formula {
+        lines: &all,
+        values: &[0, 1, 2, 3],
+        rules: &rules,
+    };
+    Ok(parts.source(rt.alloc())?)
 }
 
 // How many options of a set are left.

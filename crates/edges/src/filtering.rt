@@ -1,10 +1,11 @@
 // Filtering by rounds at arc.
 use filters::outcome::Outcome;
 use filters::rounds::by_rounds;
-use formula::records::{LineRecord, RuleRecord};
+use formula::records::{Formula, LineRecord, RuleRecord};
 use formula::source::FormulaSource;
 use levels::arc::Arc;
 use std::test::Fail;
+use supports::parts::Parts;
 
 // So many lines with the values 0 to 2, each with a rule of the kind to the next.
 fn chain(rt: &HostRuntime, n: usize, kind: u8, k: i32) -> Result<FormulaSource, Fail> {
@@ -21,7 +22,12 @@ fn chain(rt: &HostRuntime, n: usize, kind: u8, k: i32) -> Result<FormulaSource, 
         }
     }
     let lines = vec![in rt.alloc(); LineRecord { start: 0, count: 3 }; n]?;
-    Ok(FormulaSource::new(rt.alloc(), &lines, &[0, 1, 2], &rules)?)
+    let parts = Formula {
+        lines: &lines,
+        values: &[0, 1, 2],
+        rules: &rules,
+    };
+    Ok(parts.source(rt.alloc())?)
 }
 
 // Three rising lines leave one option each; bits past the count stay as found, and so do words past

@@ -1,9 +1,19 @@
 // Parts of a formula source at the edges of each number.
-use formula::check::check_formula;
-use formula::records::{LineRecord, RuleRecord};
+use formula::records::{Formula, LineRecord, RuleRecord};
 use rules::fault::SourceFault;
 use std::alloc::{AllocError, Global};
 use std::test::Fail;
+use supports::parts::Parts;
+
+// The check of the parts.
+fn check(lines: &[LineRecord], values: &[i32], rules: &[RuleRecord]) -> Result<(), SourceFault> {
+    let parts = Formula {
+        lines,
+        values,
+        rules,
+    };
+    parts.check()
+}
 
 // The number of a check's answer, and 0 where it passes.
 fn number(r: Result<(), SourceFault>) -> u8 {
@@ -35,14 +45,14 @@ fn rule(kind: u8, k: i32, m: i32) -> RuleRecord {
 // The number for two lines of two values and one rule.
 fn of_rule(r: RuleRecord) -> u8 {
     let line = LineRecord { start: 0, count: 2 };
-    number(check_formula(&[line, line], &[0, 4], &[r]))
+    number(check(&[line, line], &[0, 4], &[r]))
 }
 
 #[test]
 fn line_counts(rt: HostRuntime) -> Result<(), Fail> {
     for (n, expected) in [(0usize, 1u8), (1, 0), (128, 0), (129, 1)] {
         let lines = vec![in rt.alloc(); LineRecord { start: 0, count: 1 }; n]?;
-        assert_eq!(rt; number(check_formula(&lines, &[0], &[])), expected);
+        assert_eq!(rt; number(check(&lines, &[0], &[])), expected);
     }
     Ok(())
 }
@@ -62,7 +72,7 @@ fn option_counts(rt: HostRuntime) -> Result<(), Fail> {
         (usize::MAX, 64, 2),
     ] {
         assert_eq!(rt;
-            number(check_formula(&[LineRecord { start, count }], &run, &[])),
+            number(check(&[LineRecord { start, count }], &run, &[])),
             expected
         );
     }
@@ -73,13 +83,13 @@ fn option_counts(rt: HostRuntime) -> Result<(), Fail> {
 fn value_ranges(rt: HostRuntime) {
     let line = LineRecord { start: 0, count: 2 };
     assert_eq!(rt;
-        number(check_formula(&[line], &[-1_000_000, 1_000_000], &[])),
+        number(check(&[line], &[-1_000_000, 1_000_000], &[])),
         0
     );
-    assert_eq!(rt; number(check_formula(&[line], &[-1_000_001, 0], &[])), 3);
-    assert_eq!(rt; number(check_formula(&[line], &[0, 1_000_001], &[])), 3);
-    assert_eq!(rt; number(check_formula(&[line], &[5, 5], &[])), 3);
-    assert_eq!(rt; number(check_formula(&[line], &[5, 4], &[])), 3);
+    assert_eq!(rt; number(check(&[line], &[-1_000_001, 0], &[])), 3);
+    assert_eq!(rt; number(check(&[line], &[0, 1_000_001], &[])), 3);
+    assert_eq!(rt; number(check(&[line], &[5, 5], &[])), 3);
+    assert_eq!(rt; number(check(&[line], &[5, 4], &[])), 3);
 }
 
 #[test]
@@ -88,7 +98,7 @@ fn record_counts(rt: HostRuntime) -> Result<(), Fail> {
     for (n, expected) in [(2048usize, 0u8), (2049, 4)] {
         let rules = vec![in rt.alloc(); rule(1, 0, 0); n]?;
         assert_eq!(rt;
-            number(check_formula(&[line, line], &[0], &rules)),
+            number(check(&[line, line], &[0], &rules)),
             expected
         );
     }
@@ -113,7 +123,7 @@ fn names(rt: HostRuntime) {
             k: 0,
             m: 0,
         };
-        assert_eq!(rt; number(check_formula(&[line, line], &[0], &[r])), expected);
+        assert_eq!(rt; number(check(&[line, line], &[0], &[r])), expected);
     }
 }
 
@@ -172,15 +182,15 @@ fn order_of_faults(rt: HostRuntime) {
     let outside = LineRecord { start: 2, count: 2 };
     let lines = [good, falling, outside, outside];
     assert_eq!(rt;
-        check_formula(&lines, &[0, 4, 3], &[rule(9, -1, 0)]),
+        check(&lines, &[0, 4, 3], &[rule(9, -1, 0)]),
         Err(SourceFault::Span(2))
     );
     assert_eq!(rt;
-        check_formula(&[good, falling, falling], &[0, 4, 3], &[rule(9, -1, 0)]),
+        check(&[good, falling, falling], &[0, 4, 3], &[rule(9, -1, 0)]),
         Err(SourceFault::Values(1))
     );
     assert_eq!(rt;
-        check_formula(&[good, good], &[0, 4], &[rule(1, -1, 0), rule(9, 0, 0)]),
+        check(&[good, good], &[0, 4], &[rule(1, -1, 0), rule(9, 0, 0)]),
         Err(SourceFault::Kind(1))
     );
 }

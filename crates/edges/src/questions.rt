@@ -1,11 +1,11 @@
 // The questions of the three sources and of a view.
-use formula::records::{LineRecord, RuleRecord};
+use formula::records::{Formula, LineRecord, RuleRecord};
 use formula::source::FormulaSource;
 use joint::source::Joint;
 use rules::source::RuleSource;
 use std::test::Fail;
-use tables::records::TableRecord;
-use tables::source::TableSource;
+use supports::parts::Parts;
+use tables::records::{Table, TableRecord};
 use views::view::View;
 
 // Two lines with the values -5 to 5, and one rule between them.
@@ -22,7 +22,12 @@ fn two_lines(rt: &HostRuntime, kind: u8, k: i32, m: i32) -> Result<FormulaSource
         m,
     };
     let values = [-5, -4, -3, -2, -1, 0, 1, 2, 3, 4, 5];
-    Ok(FormulaSource::new(rt.alloc(), &[line, line], &values, &[rule])?)
+    let parts = Formula {
+        lines: &[line, line],
+        values: &values,
+        rules: &[rule],
+    };
+    Ok(parts.source(rt.alloc())?)
 }
 
 // Option 5 + v has the value v.
@@ -99,9 +104,16 @@ fn joint(rt: HostRuntime) -> Result<(), Fail> {
         second: 1,
         start: 0,
     };
-    let one = TableSource::new(heap, &[2, 3, 1], &[record], &[3, 6])?;
-    let other = TableSource::new(heap, &[2, 3, 1], &[record], &[5, 7])?;
-    let both = Joint::new(one, other);
+    let one = Table {
+        counts: &[2, 3, 1],
+        records: &[record],
+        words: &[3, 6],
+    };
+    let other = Table {
+        words: &[5, 7],
+        ..one
+    };
+    let both = Joint::new(one.source(heap)?, other.source(heap)?);
     assert_eq!(rt; both.next_support(0, 0, 1, 0), Some(0));
     assert_eq!(rt; both.next_support(0, 0, 1, 1), None);
     assert_eq!(rt; both.next_support(0, 1, 1, 0), Some(1));
@@ -124,7 +136,12 @@ fn view(rt: HostRuntime) -> Result<(), Fail> {
         second: 2,
         start: 0,
     };
-    let source = TableSource::new(heap, &[2, 3, 4], &[record], &[3, 6])?;
+    let parts = Table {
+        counts: &[2, 3, 4],
+        records: &[record],
+        words: &[3, 6],
+    };
+    let source = parts.source(heap)?;
     assert!(rt; View::new(&source, &[]).is_none());
     assert!(rt; View::new(&source, &[0; 129]).is_none());
     let shown = [2, 0];

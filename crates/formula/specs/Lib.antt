@@ -1,2 +1,3 @@
 pub mod Formulas
 pub mod Faults
+pub mod Sound

@@ -1,12 +1,9 @@
-// The check of a formula source's parts.
-ghost use Rattle.std.specs.Prelude.{◌≡◌, negsuc};
-ghost use Rattle.formula.specs.Faults.{bad_kind, bad_names, bad_range, bad_span, bad_values, formula_fault, rising};
-ghost use Rattle.rules.specs.Faults.{FirstFault};
+// What can be wrong with a line or a rule of a formula source, and where it is first.
+ghost use Rattle.std.specs.Prelude.{◌≡◌, length, negsuc, position};
+ghost use Rattle.formula.specs.Faults.{bad_kind, bad_names, bad_range, bad_span, bad_values, rising};
 
-use crate::records::{LineRecord, RuleRecord};
+use crate::records::{Formula, LineRecord, RuleRecord};
 use kinds::kind::Kind;
-use rules::fault::SourceFault;
-use rules::flaw::{Flaw, first_with};
 use rules::parts::{ends_inside, names_two};
 
 // Whether the values rise and lie from -1,000,000 to 1,000,000.
@@ -24,115 +21,74 @@ fn rises(values: &[i32]) -> bool
 }
 
 // Whether the line has 0 or over 64 options, or its values end outside a run of len.
-fn is_bad_span(len: usize, l: LineRecord) -> bool
+fn has_bad_span(len: usize, l: LineRecord) -> bool
     ensures { result ≡ bad_span len l }
 {
-    !((0 < l.count) & ((l.count <= 64) & ends_inside(l.start, l.count, len)))
+    !(0 < l.count && l.count <= 64 && ends_inside(l.start, l.count, len))
 }
 
-// A line whose span is bad in a run of len values.
-#[derive(Drop)]
-struct BadSpan {
-    len: usize,
-}
-
-impl Flaw<LineRecord> for BadSpan {
-    ghost flawed = { λ w l. bad_span w.len l };
-
-    fn has(&self, l: &LineRecord) -> bool {
-        is_bad_span(self.len, *l)
-    }
-}
-
-// A line whose values are out of range or do not rise.
-#[derive(Drop)]
-struct BadValues<'a> {
-    values: &'a [i32],
-}
-
-impl<'a> Flaw<LineRecord> for BadValues<'a> {
-    ghost flawed = { λ w l. bad_values w.values.now l };
-
-    fn has(&self, l: &LineRecord) -> bool {
-        if is_bad_span(self.values.len(), *l) {
-            return false;
-        }
-        !rises(&self.values[l.start..l.start + l.count])
-    }
-}
-
-// A rule that names a missing line, or one line twice.
-#[derive(Drop)]
-struct BadNames {
-    lines: usize,
-}
-
-impl Flaw<RuleRecord> for BadNames {
-    ghost flawed = { λ w r. bad_names w.lines r };
-
-    fn has(&self, r: &RuleRecord) -> bool {
-        !names_two(self.lines, r.first, r.second)
-    }
-}
-
-// A rule whose kind is not 1 to 5.
-#[derive(Drop)]
-struct BadKind;
-
-impl Flaw<RuleRecord> for BadKind {
-    ghost flawed = { λ _ r. bad_kind r };
-
-    fn has(&self, r: &RuleRecord) -> bool {
-        Kind::numbered(r.kind).is_none()
-    }
-}
-
-// A rule whose k or m is out of the range of its kind.
-#[derive(Drop)]
-struct BadRange;
-
-impl Flaw<RuleRecord> for BadRange {
-    ghost flawed = { λ _ r. bad_range r };
-
-    fn has(&self, r: &RuleRecord) -> bool {
-        match Kind::numbered(r.kind) {
-            Some(kind) => !kind.takes(r.k, r.m),
-            None => false,
-        }
-    }
-}
-
-// The first fault of the parts: the one with the smallest number, at the first line or record that
-// has it.
-pub fn check_formula(
-    lines: &[LineRecord],
-    values: &[i32],
-    rules: &[RuleRecord],
-) -> Result<(), SourceFault>
-    ensures { FirstFault (formula_fault lines.now values.now rules.now) result }
+// Whether the values of the line are out of range or do not rise.
+fn has_bad_values(values: &[i32], l: LineRecord) -> bool
+    ensures { result ≡ bad_values values.now l }
 {
-    let count = lines.len();
-    if count == 0 || count > 128 {
-        return Err(SourceFault::Lines);
+    if has_bad_span(values.len(), l) {
+        return false;
     }
-    let len = values.len();
-    if let Some(i) = first_with(lines, &BadSpan { len }) {
-        return Err(SourceFault::Span(i));
+    !rises(&values[l.start..l.start + l.count])
+}
+
+// Whether the kind of the rule is not 1 to 5.
+fn has_bad_kind(r: RuleRecord) -> bool
+    ensures { result ≡ bad_kind r }
+{
+    Kind::numbered(r.kind).is_none()
+}
+
+// Whether k or m of the rule is out of the range of its kind.
+fn has_bad_range(r: RuleRecord) -> bool
+    ensures { result ≡ bad_range r }
+{
+    Kind::numbered(r.kind).is_some_and(|kind| !kind.takes(r.k, r.m))
+}
+
+impl<'a> Formula<'a> {
+    // The first line whose span is bad.
+    pub(crate) fn first_bad_span(&self) -> Option<usize>
+        ensures { result ≡ position (bad_span (length self.now.values.now)) self.now.lines.now }
+    {
+        let len = self.values.len();
+        self.lines.iter().position(|l| has_bad_span(len, *l))
     }
-    if let Some(i) = first_with(lines, &BadValues { values }) {
-        return Err(SourceFault::Values(i));
+
+    // The first line whose values are out of range or do not rise.
+    pub(crate) fn first_bad_values(&self) -> Option<usize>
+        ensures { result ≡ position (bad_values self.now.values.now) self.now.lines.now }
+    {
+        let values = self.values;
+        self.lines.iter().position(|l| has_bad_values(values, *l))
     }
-    if rules.len() > 2048 {
-        return Err(SourceFault::Records);
+
+    // The first rule that names a missing line, or one line twice.
+    pub(crate) fn first_bad_names(&self) -> Option<usize>
+        ensures { result ≡ position (bad_names (length self.now.lines.now)) self.now.rules.now }
+    {
+        let lines = self.lines.len();
+        self.rules
+            .iter()
+            .position(|r| !names_two(lines, r.first, r.second))
     }
-    if let Some(r) = first_with(rules, &BadNames { lines: count }) {
-        return Err(SourceFault::Names(r));
+
+    // The first rule whose kind is not 1 to 5.
+    pub(crate) fn first_bad_kind(&self) -> Option<usize>
+        ensures { result ≡ position bad_kind self.now.rules.now }
+    {
+        self.rules.iter().position(|r| has_bad_kind(*r))
     }
-    if let Some(r) = first_with(rules, &BadKind) {
-        return Err(SourceFault::Kind(r));
+
+    // The first rule whose k or m is out of the range of its kind.
+    pub(crate) fn first_bad_range(&self) -> Option<usize>
+        ensures { result ≡ position bad_range self.now.rules.now }
+    {
+        self.rules.iter().position(|r| has_bad_range(*r))
     }
-    if let Some(r) = first_with(rules, &BadRange) {
-        return Err(SourceFault::Range(r));
-    }
-    Ok(())
 }

@@ -1,10 +1,11 @@
 -- The first fault, found number by number.
-use Rattle.std.proofs.Common.{◌≡◌, ℕ, ◌+◌, ◌<◌, Bool, true, false, cond, eqb, ◌⊎◌, Some, Ok, Err, refl, ap, ◌∙◌, inl, inr, ⊎_elim, arith}
+use Rattle.std.proofs.Common.{◌≡◌, ℕ, ◌+◌, ◌<◌, Bool, true, false, cond, eqb, ◌⊎◌, List, Some, None, Ok, Err, refl, ap, ◌∙◌, inl, inr, ⊎_elim, zero-le, arith}
+use Rattle.std.specs.List.{position}
 use Rattle.std.proofs.lemmas.Bool.{cases_lt}
-use Rattle.bits.specs.Least.{Least}
 use Rattle.rules.specs.declared.fault.SourceFault.{SourceFault}
 use Rattle.rules.specs.declared.fault.SourceFault.TheVariants.{Lines, Span, Values, Records, Names, Kind, Range, Words, Counts, Memory}
-use Rattle.rules.specs.Faults.{number, concerned, FirstFault}
+use Rattle.rules.specs.Faults.{number, concerned, flawed_at, FirstFault}
+use Rattle.rules.proofs.Flaws.{first_flaw}
 
 -- the fault of a number at a line or record
 abbrev pub fault_of : ℕ → ℕ → SourceFault
@@ -44,38 +45,47 @@ numbered (Words r) = (omega arith, inl (omega arith))
 numbered (Counts i) = (omega arith, inl (omega arith))
 numbered Memory = (omega arith, inr refl)
 
-module _ (there : SourceFault → Bool) where
-  -- no fault has a number below n
-  abbrev pub Clear : ℕ → Type 0
-  Clear n = (f : SourceFault) → number f < n → there f ≡ false
+-- no fault has a number below n
+pub record Clear (there : SourceFault → Bool) (n : ℕ) : Type 0 where
+  pub none : (f : SourceFault) → number f < n → there f ≡ false
 
-  pub clear_start : Clear 1
-  clear_start f h = absurd (omega (arith, (numbered f).0, h))
+module _ (there : SourceFault → Bool) where
+  pub clear_start : Clear there 1
+  clear_start = record { none = λ f h. absurd (omega (arith, (numbered f).0, h)) }
 
   at_number : (n : ℕ) (f : SourceFault) → number f ≡ n → there f ≡ there (fault_of n (concerned f))
   at_number n f e = ap there (is_fault f ∙ ap (λ k. fault_of k (concerned f)) e)
 
   -- nor has one the number n
-  pub clear_more : (n : ℕ) → Clear n → ((p : ℕ) → there (fault_of n p) ≡ false) → Clear (n + 1)
-  clear_more n clear none f h = ⊎_elim (λ lt. clear f lt) (λ ge. at_number n f (omega (arith, h, ge)) ∙ none (concerned f)) (cases_lt (number f) n)
+  pub clear_more : (n : ℕ) → Clear there n → ((p : ℕ) → there (fault_of n p) ≡ false) → Clear there (n + 1)
+  clear_more n clear none = record {
+    none = λ f h. ⊎_elim (λ lt. clear.none f lt) (λ ge. at_number n f (omega (arith, h, ge)) ∙ none (concerned f)) (cases_lt (number f) n);
+  }
 
-  pub clear_all : Clear 10 → there Memory ≡ false → FirstFault there (Ok tt)
-  clear_all clear memory f = ⊎_elim (λ lt. clear f lt) (λ (e : f ≡ Memory). ap there e ∙ memory) (numbered f).1
-
-  -- the first line or record p that has the fault of the number n
-  pub first_at : (n p : ℕ) → number (fault_of n p) ≡ n → concerned (fault_of n p) ≡ p → Clear n → Least (λ q. there (fault_of n q)) 0 (Some p) → FirstFault there (Err (fault_of n p))
-  first_at n p en ep clear least = (
-    least.1,
-    λ g before. ⊎_elim
-        (λ (lt : number g < number (fault_of n p)). clear g (omega (arith, lt, en)))
-        (λ (w : (number g ≡ number (fault_of n p)) × (concerned g < concerned (fault_of n p))). at_number n g (w.0 ∙ en) ∙ least.2 (concerned g) (omega arith) (omega (arith, w.1, ep))) before,
-  )
+  pub clear_all : Clear there 10 → there Memory ≡ false → FirstFault there (Ok tt)
+  clear_all clear memory f = ⊎_elim (λ lt. clear.none f lt) (λ (e : f ≡ Memory). ap there e ∙ memory) (numbered f).1
 
   -- a fault that no line or record is concerned by
-  pub first_of : (n : ℕ) → concerned (fault_of n 0) ≡ 0 → number (fault_of n 0) ≡ n → Clear n → there (fault_of n 0) ≡ true → FirstFault there (Err (fault_of n 0))
+  pub first_of : (n : ℕ) → concerned (fault_of n 0) ≡ 0 → number (fault_of n 0) ≡ n → Clear there n → there (fault_of n 0) ≡ true → FirstFault there (Err (fault_of n 0))
   first_of n ep en clear e = (
     e,
     λ g before. ⊎_elim
-        (λ (lt : number g < number (fault_of n 0)). clear g (omega (arith, lt, en)))
+        (λ (lt : number g < number (fault_of n 0)). clear.none g (omega (arith, lt, en)))
         (λ (w : (number g ≡ number (fault_of n 0)) × (concerned g < concerned (fault_of n 0))). absurd (omega (arith, w.1, ep))) before,
   )
+
+  module _ {X : Type 0} (flawed : X → Bool) (xs : List X) (n : ℕ) (at : (p : ℕ) → there (fault_of n p) ≡ flawed_at flawed xs p) where
+    -- the fault of the number n is a flaw, and p is the first place that has it
+    pub first_at : (p : ℕ) → number (fault_of n p) ≡ n → concerned (fault_of n p) ≡ p → Clear there n → Some p ≡ position flawed xs → FirstFault there (Err (fault_of n p))
+    first_at p en ep clear found =
+        let least = first_flaw flawed xs (Some p) found in (
+          at p ∙ least.1,
+          λ g before. ⊎_elim
+              (λ (lt : number g < number (fault_of n p)). clear.none g (omega (arith, lt, en)))
+              (λ (w : (number g ≡ number (fault_of n p)) × (concerned g < concerned (fault_of n p))).
+              at_number n g (w.0 ∙ en) ∙ at (concerned g) ∙ least.2 (concerned g) zero-le (omega (arith, w.1, ep))) before,
+        )
+
+    -- no place has it
+    pub clear_flaw : Clear there n → None ≡ position flawed xs → Clear there (n + 1)
+    clear_flaw clear none = clear_more n clear (λ p. at p ∙ first_flaw flawed xs None none p zero-le)

@@ -1,5 +1,6 @@
 -- Faults of the parts of a source, and which of them is told.
-use Rattle.std.specs.Prelude.{◌≡◌, ℕ, zero, suc, ◌<◌, Bool, true, false, ◌⊎◌, List, [], ◌∷◌, Ok, Err, Result}
+use Rattle.std.specs.Prelude.{◌≡◌, ℕ, zero, suc, ◌<◌, Bool, true, false, ◌⊎◌, List, [], ◌∷◌, ◌++◌, codes, Ok, Err, Result}
+use Rattle.std.specs.Fmt.{decimal}
 use Rattle.model.specs.Meaning.{Meaning}
 use Rattle.model.specs.Making.{bare}
 use Rattle.rules.specs.declared.fault.SourceFault.{SourceFault}
@@ -30,6 +31,10 @@ concerned (Range r) = r
 concerned (Words r) = r
 concerned (Counts i) = i
 concerned Memory = 0
+
+-- what is printed of a fault: its number, a blank and the line or record concerned
+abbrev pub refusal : SourceFault → List ℕ
+refusal f = decimal (number f) ++ codes " " ++ decimal (concerned f)
 
 -- whether there is an element at place p that has the flaw
 abbrev pub flawed_at : {X : Type 0} → (X → Bool) → List X → ℕ → Bool

@@ -1,4 +1,5 @@
 // A reference to a source is a source, so that several levels can stand over one.
+// Kept: nothing shorter hands on the questions of a trait, in Rust neither.
 use crate::source::RuleSource;
 
 impl<'a, S: RuleSource> RuleSource for &'a S {

@@ -2,7 +2,6 @@
 #![tactic(auto)]
 
 pub mod fault;
-pub mod flaw;
 pub mod lent;
 pub mod parts;
 pub mod source;

@@ -1,4 +1,5 @@
-// Reading the parts of a source without a step outside them.
+// Reading the parts of a source without a step outside them. A place whose number would be too large for
+// its type lies past the end.
 ghost use Rattle.std.specs.Prelude.{◌≡◌, ◌+◌, nat_le, slice_index_or};
 ghost use Rattle.model.specs.Making.{two_of};
 
@@ -6,34 +7,28 @@ ghost use Rattle.model.specs.Making.{two_of};
 pub fn item_or<T: Copy>(items: &[T], at: usize, default: T) -> T
     ensures { result ≡ slice_index_or items.now at default }
 {
-    match items.get(at) {
-        Some(x) => *x,
-        None => default,
-    }
+    items.get(at).copied().unwrap_or(default)
 }
 
 // The element at a place counted from start, or the default past the end.
 pub fn item_from<T: Copy>(items: &[T], start: usize, at: usize, default: T) -> T
     ensures { result ≡ slice_index_or items.now (start + at) default }
 {
-    if ends_inside(start, at, items.len()) {
-        item_or(items, start + at, default)
-    } else {
-        default
-    }
+    start
+        .checked_add(at)
+        .map_or(default, |place| item_or(items, place, default))
 }
 
-// Whether a part of so many elements from start on ends within len; a start near the top of its type
-// does not wrap.
+// Whether a part of so many elements from start on ends within len.
 pub fn ends_inside(start: usize, count: usize, len: usize) -> bool
     ensures { result ≡ nat_le (start + count) len }
 {
-    start <= len && count <= len - start
+    start.checked_add(count).is_some_and(|end| end <= len)
 }
 
 // Whether the two numbers name different lines that exist.
 pub fn names_two(lines: usize, first: usize, second: usize) -> bool
     ensures { result ≡ two_of lines first second }
 {
-    (first < lines) & ((second < lines) & (first != second))
+    first < lines && second < lines && first != second
 }

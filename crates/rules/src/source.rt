@@ -41,13 +41,10 @@ pub trait RuleSource {
     fn next_joined(&self, i: usize, from: usize) -> Option<usize>
         ensures { Least ((meaning self.now).joined i) from result }
     {
-        let lines = self.lines();
-        let mut j = from;
-        while j < lines {
+        for j in from..self.lines() {
             if self.joined(i, j) {
                 return Some(j);
             }
-            j += 1;
         }
         None
     }
@@ -64,12 +61,10 @@ pub trait RuleSource {
     ) -> Option<usize>
         ensures { Least (standing_with (meaning self.now) i a j standing) from result }
     {
-        let mut at = from;
-        while let Some(b) = self.next_support(i, a, j, at) {
-            if has(standing, b) {
+        for b in from..self.count(j) {
+            if has(standing, b) && self.together(i, a, j, b) {
                 return Some(b);
             }
-            at = b + 1;
         }
         None
     }
@@ -79,8 +74,7 @@ pub trait RuleSource {
         ensures { (j : ℕ) → on result j ≡ (meaning self.now).joined i j }
     {
         let mut found = 0;
-        let lines = self.lines();
-        for j in 0..lines {
+        for j in 0..self.lines() {
             if self.joined(i, j) {
                 found = with(found, j);
             }

@@ -1,3 +1,5 @@
+pub mod Lines
+pub mod Largest
 pub mod Indices
 pub mod Read
 pub mod Folding

@@ -8,20 +8,20 @@ use Rattle.model.specs.Words.{place, words_meaning}
 use Rattle.model.proofs.Bools.{implied}
 use Rattle.model.proofs.Pairs.{pair_of}
 use Rattle.supports.specs.declared.supports.Supports.{Supports}
-use Rattle.supports.specs.Held.{held, supports_meaning}
+use Rattle.supports.specs.Held.{counts, joins, held, supports_meaning}
 
 module _ (s : Supports) where
-  pub support_bits : (i a j b : ℕ) → i < length (vec_items s.counts) → j < length (vec_items s.counts) → a < s.width
-      → on (get_or (vec_items s.words) (place (length (vec_items s.counts)) s.width i a j) 0) b ≡ (supports_meaning s).together i a j b
+  pub support_bits : (i a j b : ℕ) → i < length (counts s) → j < length (counts s) → a < s.width
+      → on (get_or (vec_items s.words) (place (length (counts s)) s.width i a j) 0) b ≡ (supports_meaning s).together i a j b
   unfolding words_meaning
-  support_bits i a j b h g k = sym (implied (two_options (vec_items s.counts) i a j b) _ ((held s).clean.options i a j b h k g))
+  support_bits i a j b h g k = sym (implied (two_options (counts s) i a j b) _ ((held s).clean.options i a j b h k g))
 
-  pub support_none : (i a j b : ℕ) → (i < length (vec_items s.counts) → j < length (vec_items s.counts) → a < s.width → ⊥) → on 0 b ≡ (supports_meaning s).together i a j b
+  pub support_none : (i a j b : ℕ) → (i < length (counts s) → j < length (counts s) → a < s.width → ⊥) → on 0 b ≡ (supports_meaning s).together i a j b
   unfolding words_meaning
-  support_none i a j b missing = on_zero b ∙ sym (and_left (two_options (vec_items s.counts) i a j b) _ (⊎_elim (λ t.
-      let p = pair_of (vec_items s.counts) i a j b t in absurd (missing p.i_lt p.j_lt (omega (arith, p.a_lt, (held s).sized.counts_le i)))) (λ f. f)
-      (cases_Bool (two_options (vec_items s.counts) i a j b))))
+  support_none i a j b missing = on_zero b ∙ sym (and_left (two_options (counts s) i a j b) _ (⊎_elim (λ t.
+      let p = pair_of (counts s) i a j b t in absurd (missing p.i_lt p.j_lt (omega (arith, p.a_lt, (held s).sized.counts_le i)))) (λ f. f)
+      (cases_Bool (two_options (counts s) i a j b))))
 
-  pub joins_bits : (i j : ℕ) → on (get_or (vec_items s.joins) i 0) j ≡ (supports_meaning s).joined i j
+  pub joins_bits : (i j : ℕ) → on (get_or (joins s) i 0) j ≡ (supports_meaning s).joined i j
   unfolding words_meaning
-  joins_bits i j = sym (implied (two_lines (vec_items s.counts) i j) _ ((held s).clean.lines i j))
+  joins_bits i j = sym (implied (two_lines (counts s) i j) _ ((held s).clean.lines i j))

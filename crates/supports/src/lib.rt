@@ -2,5 +2,6 @@
 #![tactic(auto)]
 
 pub mod making;
+pub mod parts;
 pub mod questions;
 pub mod supports;

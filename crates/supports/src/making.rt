@@ -1,18 +1,21 @@
 // Making compiled words: from no rules, one rule at a time.
-ghost use Rattle.std.specs.Prelude.{◌≡◌, ℕ, ◌*◌, ◌<◌, ◌≤◌, Bool, true, ◌&&◌, length, IfOk, vec_len, ◌==◌, ◌≢◌, nat_lt, slice_index};
+ghost use Rattle.std.specs.Prelude.{◌≡◌, ℕ, ◌*◌, ◌<◌, ◌≤◌, Bool, true, ◌&&◌, length, replicate, IfOk, vec_len, ◌==◌, ◌≢◌, nat_lt, slice_index};
 ghost use Rattle.bits.specs.Bits.{on};
 ghost use Rattle.model.specs.Making.{bare, counts_ok, no_rules, two_options, with_ban, with_join, with_part, with_rule};
 ghost use Rattle.model.specs.Words.{Unruled, clear_at, mark_at};
 ghost use Rattle.supports.specs.Adding.{fit, ruled, unruled};
 ghost use Rattle.supports.specs.Held.{supports_meaning};
+ghost use Rattle.supports.specs.Lines.{counts_of, joins_of};
 
-use crate::supports::Supports;
+use crate::supports::{Line, Supports};
 use bits::{ones, with, without};
 use rules::parts::names_two;
 use rules::source::RuleSource;
 use std::alloc::{AllocError, Global};
 
 // A rule between two lines.
+// Kept: a closure in its place needs a `requires` that it may be called and answers alike each time, and no
+// public function has one.
 pub trait PairRule {
     // Whether it allows an option of the first line with one of the second.
     ghost permits: { Self → ℕ → ℕ → Bool };
@@ -27,30 +30,25 @@ fn clear(words: &mut Vec<u64>, at: usize, b: usize)
     requires { at < vec_len words.old }
     ensures { words.new.items ≡ clear_at words.old.items at b }
 {
-    let w = words[at];
-    words[at] = without(w, b);
+    words[at] = without(words[at], b);
 }
 
-// Sets a bit of one word.
-fn mark(words: &mut Vec<u128>, at: usize, b: usize)
-    requires inside { at < vec_len words.old }
+// Marks line b as joined with the line at a place.
+fn mark(lines: &mut Vec<Line>, at: usize, b: usize)
+    requires inside { at < vec_len lines.old }
     requires low { b < 128 }
-    ensures { words.new.items ≡ mark_at words.old.items at b }
+    ensures joins { joins_of lines.new.items ≡ mark_at (joins_of lines.old.items) at b }
+    ensures counts { counts_of lines.new.items ≡ counts_of lines.old.items }
 {
-    let w = words[at];
-    words[at] = with(w, b);
+    let line = &mut lines[at];
+    line.joins = with(line.joins, b);
 }
 
 // Whether each count is 1 to 64.
 fn counts_fit(counts: &[usize]) -> bool
     ensures { result ≡ counts_ok counts.now }
 {
-    for c in counts {
-        if *c == 0 || *c > 64 {
-            return false;
-        }
-    }
-    true
+    counts.iter().all(|c| 0 < *c && *c <= 64)
 }
 
 // The largest option count.
@@ -59,13 +57,7 @@ fn widest(counts: &[usize]) -> usize
     ensures covers { (i : ℕ) → slice_index counts.now i ≤ result }
     ensures small { result ≤ 64 }
 {
-    let mut most = 0;
-    for c in counts {
-        if *c > most {
-            most = *c;
-        }
-    }
-    most
+    counts.iter().copied().max().unwrap_or(0)
 }
 
 // The options of line j that go with option a of line i where there are no rules, as a word.
@@ -73,10 +65,11 @@ fn free_word(counts: &[usize], i: usize, a: usize, j: usize) -> u64
     requires { counts_ok counts.now ≡ true }
     ensures { (b : ℕ) → on result b ≡ two_options counts.now i a j b }
 {
-    if i >= counts.len() || j >= counts.len() || i == j || a >= counts[i] {
-        return 0;
+    if names_two(counts.len(), i, j) && a < counts[i] {
+        ones(counts[j])
+    } else {
+        0
     }
-    ones(counts[j])
 }
 
 // All words where there are no rules.
@@ -89,12 +82,27 @@ fn free_words(heap: Global, counts: &[usize], width: usize) -> Result<Vec<u64>, 
 {
     let lines = counts.len();
     let places = lines * width * lines;
+    // Kept: `collect` would tell the words as a list of values, and the contract tells each by its bits.
     let mut words = Vec::with_capacity(heap, places)?;
     for p in 0..places {
         let row = p / lines;
         words.push(free_word(counts, row / width, row % width, p % lines))?;
     }
     Ok(words)
+}
+
+// Lines of these option counts, none joined with another.
+fn free_lines(heap: Global, counts: &[usize]) -> Result<Vec<Line>, AllocError>
+    ensures counts { IfOk result (λ v. counts_of v.items ≡ counts.now) }
+    ensures joins { IfOk result (λ v. joins_of v.items ≡ replicate (length counts.now) 0) }
+{
+    counts
+        .iter()
+        .map(|c| Line {
+            count: *c,
+            joins: 0,
+        })
+        .collect(heap)
 }
 
 impl Supports {
@@ -104,13 +112,11 @@ impl Supports {
         ensures { IfOk result (λ s. supports_meaning s ≡ no_rules counts.now) }
     {
         let width = widest(counts);
+        let lines = free_lines(heap, counts)?;
         let words = free_words(heap, counts, width)?;
-        let joins = vec![in heap; 0u128; counts.len()]?;
-        let counts = Vec::from_slice(heap, counts)?;
         Ok(Supports {
-            counts,
+            lines,
             width,
-            joins,
             words,
         })
     }
@@ -146,8 +152,8 @@ impl Supports {
         requires differ { i ≢ j }
         ensures { supports_meaning self.new ≡ with_join i j (supports_meaning self.old) }
     {
-        mark(&mut self.joins, i, j);
-        mark(&mut self.joins, j, i);
+        mark(&mut self.lines, i, j);
+        mark(&mut self.lines, j, i);
     }
 
     // Forbids option a of line i with option b of the joined line j.
@@ -184,8 +190,8 @@ impl Supports {
         requires differ { i ≢ j }
         ensures { supports_meaning self.new ≡ with_rule i j (R.permits rule.now) (supports_meaning self.old) }
     {
-        let rows = self.counts[i];
-        let options = self.counts[j];
+        let rows = self.lines[i].count;
+        let options = self.lines[j].count;
         self.join(i, j);
         for a in 0..rows {
             self.add_row(i, j, a, options, rule);

@@ -1,11 +1,12 @@
 // The questions of a source, answered from the words.
-ghost use Rattle.std.specs.Prelude.{◌≡◌, ℕ, ◌<◌, length, vec_len};
+ghost use Rattle.std.specs.Prelude.{◌≡◌, ℕ, ◌<◌, length, slice_index_or, vec_len};
 ghost use Rattle.bits.specs.Bits.{on};
 ghost use Rattle.model.specs.Words.{place};
 ghost use Rattle.rules.specs.Standing.{standing_with};
-ghost use Rattle.supports.specs.Held.{held, supports_meaning};
+ghost use Rattle.supports.specs.Held.{counts, held, supports_meaning};
+ghost use Rattle.supports.specs.Lines.{no_line};
 
-use crate::supports::Supports;
+use crate::supports::{Line, Supports};
 use bits::{has, next_one, shared};
 use rules::parts::item_or;
 use rules::source::RuleSource;
@@ -13,20 +14,20 @@ use rules::source::RuleSource;
 impl Supports {
     // Where the word of option a of line i and the line j stands.
     pub(crate) fn place_of(&self, i: usize, a: usize, j: usize) -> usize
-        requires first { i < length self.now.counts.items }
-        requires second { j < length self.now.counts.items }
+        requires first { i < length (counts self.now) }
+        requires second { j < length (counts self.now) }
         requires option { a < self.now.width }
-        ensures value { result ≡ place (length self.now.counts.items) self.now.width i a j }
+        ensures value { result ≡ place (length (counts self.now)) self.now.width i a j }
         ensures inside { result < vec_len self.now.words }
     {
-        (i * self.width + a) * self.counts.len() + j
+        (i * self.width + a) * self.lines.len() + j
     }
 
     // The options of line j that go with option a of line i, as a word.
     fn support(&self, i: usize, a: usize, j: usize) -> u64
         ensures { (b : ℕ) → on result b ≡ (supports_meaning self.now).together i a j b }
     {
-        let lines = self.counts.len();
+        let lines = self.lines.len();
         if i >= lines || j >= lines || a >= self.width {
             return 0;
         }
@@ -40,11 +41,18 @@ impl Supports {
         shared(self.support(i, a, j), standing)
     }
 
+    // The line i, or one with no options and no joined lines where it is missing.
+    fn line(&self, i: usize) -> Line
+        ensures { result ≡ slice_index_or self.now.lines.items i no_line }
+    {
+        item_or(&self.lines, i, Line { count: 0, joins: 0 })
+    }
+
     // The lines that are joined with line i, as a word.
     fn joins(&self, i: usize) -> u128
         ensures { (j : ℕ) → on result j ≡ (supports_meaning self.now).joined i j }
     {
-        item_or(&self.joins, i, 0)
+        self.line(i).joins
     }
 }
 
@@ -54,11 +62,11 @@ impl RuleSource for Supports {
     ghost lawful = { λ s. (held s).lawful };
 
     fn lines(&self) -> usize {
-        self.counts.len()
+        self.lines.len()
     }
 
     fn count(&self, line: usize) -> usize {
-        item_or(&self.counts, line, 0)
+        self.line(line).count
     }
 
     fn joined(&self, i: usize, j: usize) -> bool {

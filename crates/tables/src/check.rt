@@ -1,78 +1,50 @@
-// The check of a table source's parts.
-ghost use Rattle.rules.specs.Faults.{FirstFault};
-ghost use Rattle.tables.specs.Faults.{bad_count, bad_names, bad_words, table_fault};
+// What can be wrong with a line or a record of a table source, and where it is first.
+ghost use Rattle.std.specs.Prelude.{◌≡◌, length, position};
+ghost use Rattle.tables.specs.Faults.{bad_count, bad_names, bad_words};
 
-use crate::records::TableRecord;
-use rules::fault::SourceFault;
-use rules::flaw::{Flaw, first_with};
+use crate::records::{Table, TableRecord};
 use rules::parts::{ends_inside, item_or, names_two};
 
-// A line with 0 or over 64 options.
-#[derive(Drop)]
-struct BadCount;
-
-impl Flaw<usize> for BadCount {
-    ghost flawed = { λ _ c. bad_count c };
-
-    fn has(&self, c: &usize) -> bool {
-        !((0 < *c) & (*c <= 64))
-    }
-}
-
-// A record that names a missing line, or one line twice.
-#[derive(Drop)]
-struct BadNames {
-    lines: usize,
-}
-
-impl Flaw<TableRecord> for BadNames {
-    ghost flawed = { λ w r. bad_names w.lines r };
-
-    fn has(&self, r: &TableRecord) -> bool {
-        !names_two(self.lines, r.first, r.second)
-    }
-}
-
-// A record whose words end outside the table of so many.
-#[derive(Drop)]
-struct BadWords<'a> {
-    counts: &'a [usize],
-    len: usize,
-}
-
-impl<'a> Flaw<TableRecord> for BadWords<'a> {
-    ghost flawed = { λ w r. bad_words w.counts.now w.len r };
-
-    fn has(&self, r: &TableRecord) -> bool {
-        !ends_inside(r.start, item_or(self.counts, r.first, 0), self.len)
-    }
-}
-
-// The first fault of the parts: the one with the smallest number, at the first line or record that
-// has it.
-pub fn check_table(
-    counts: &[usize],
-    records: &[TableRecord],
-    words: &[u64],
-) -> Result<(), SourceFault>
-    ensures { FirstFault (table_fault counts.now records.now words.now) result }
+// Whether a line has 0 or over 64 options.
+fn is_bad_count(count: usize) -> bool
+    ensures { result ≡ bad_count count }
 {
-    let lines = counts.len();
-    if lines == 0 || lines > 128 {
-        return Err(SourceFault::Lines);
+    !(0 < count && count <= 64)
+}
+
+// Whether the words of a record end outside the table of so many.
+fn has_bad_words(counts: &[usize], len: usize, r: TableRecord) -> bool
+    ensures { result ≡ bad_words counts.now len r }
+{
+    !ends_inside(r.start, item_or(counts, r.first, 0), len)
+}
+
+impl<'a> Table<'a> {
+    // The first line with 0 or over 64 options.
+    pub(crate) fn first_bad_count(&self) -> Option<usize>
+        ensures { result ≡ position bad_count self.now.counts.now }
+    {
+        self.counts.iter().position(|c| is_bad_count(*c))
     }
-    if let Some(i) = first_with(counts, &BadCount) {
-        return Err(SourceFault::Span(i));
+
+    // The first record that names a missing line, or one line twice.
+    pub(crate) fn first_bad_names(&self) -> Option<usize>
+        ensures { result ≡ position (bad_names (length self.now.counts.now)) self.now.records.now }
+    {
+        let lines = self.counts.len();
+        self.records
+            .iter()
+            .position(|r| !names_two(lines, r.first, r.second))
     }
-    if records.len() > 2048 {
-        return Err(SourceFault::Records);
+
+    // The first record whose words end outside the table.
+    pub(crate) fn first_bad_words(&self) -> Option<usize>
+        ensures { result ≡ position (bad_words self.now.counts.now (length self.now.words.now)) self.now.records.now }
+    {
+        let counts = self.counts;
+        let len = self.words.len();
+        self.records
+            .iter()
+            .position(|r| has_bad_words(counts, len, *r))
     }
-    if let Some(r) = first_with(records, &BadNames { lines }) {
-        return Err(SourceFault::Names(r));
-    }
-    let len = words.len();
-    if let Some(r) = first_with(records, &BadWords { counts, len }) {
-        return Err(SourceFault::Words(r));
-    }
-    Ok(())
 }

@@ -18,8 +18,8 @@ use singleton::Singleton;
 use std::alloc::{AllocError, Global};
 use std::time::Instant;
 use std::{env, fs};
-use tables::check::check_table;
-use tables::records::TableRecord;
+use supports::parts::Parts;
+use tables::records::{Table, TableRecord};
 use tables::source::TableSource;
 
 // What the file says of a wall, before it is checked.
@@ -140,9 +140,7 @@ fn arguments(rt: &HostRuntime) -> anyhow::Result<(String, Option<u32>)> {
 }
 
 fn refused(rt: &HostRuntime, fault: SourceFault) -> anyhow::Result<()> {
-    let number = fault.number();
-    let concerned = fault.concerned();
-    println!(rt; "refused {number} {concerned}")?;
+    println!(rt; "refused {fault}")?;
     Ok(())
 }
 
@@ -152,10 +150,15 @@ fn timed(rt: &HostRuntime) -> anyhow::Result<()> {
     let text = fs::read_to_string(rt, file.as_str())?;
     let all = numbers(heap, text.as_str())?;
     let wall = parts_of(heap, &all)?;
-    if let Err(fault) = check_table(&wall.counts, &wall.records, &wall.table) {
+    let table = Table {
+        counts: &wall.counts,
+        records: &wall.records,
+        words: &wall.table,
+    };
+    if let Err(fault) = table.check() {
         return refused(rt, fault);
     }
-    match TableSource::new(heap, &wall.counts, &wall.records, &wall.table) {
+    match table.source(heap) {
         Ok(source) => filter(rt, &source, runs),
         Err(fault) => refused(rt, fault),
     }

@@ -1,23 +1,14 @@
-use Rattle.std.proofs.Common.{◌<◌, ◌≤◌, ⊎_elim, arith, below_more}
-use Rattle.std.proofs.lemmas.List.{get_or_past}
-use Rattle.std.proofs.lemmas.Bool.{cases_lt}
-use Rattle.model.proofs.Pairs.{count_at}
+use Rattle.std.proofs.Common.{◌≡◌, sym, ap, ◌∙◌, subst, ◌≤◌, get_or}
+use Rattle.std.specs.Option.{unwrap_or}
+use Rattle.std.proofs.lemmas.Iterator.{YieldsList-from_slice}
+use Rattle.std.proofs.lemmas.Iterator.Consumers.{YieldsList-from_copied, max_from_yields_List}
+use Rattle.std.proofs.lemmas.Iterator.Adapters.{option_map_id}
+use Rattle.supports.proofs.Largest.{largest, most_is, covers, small}
 use Rattle.supports.proofs.making.widest.Goals as goal
-use Rattle.supports.proofs.making.widest.Goals.{then-c-most, else-c-most}
-
-pub loop-c-preserved : goal.loop-c-preserved
-loop-c-preserved c =
-    let small = (count_at c.args.counts.now c.requires c.loop-c.c-index c.loop-c-test.true).1 in
-    elim c.if-c-most.branch [
-      | then-c-most w ↦ (below_more _ _ (λ k h. omega (arith, c.loop-c.invariant.0 k h, w.most-is, w.if-c-most.true)) (omega (arith, w.most-is)), omega (arith, w.most-is, small))
-      | else-c-most w ↦ (below_more _ _ (λ k h. omega (arith, c.loop-c.invariant.0 k h, w.most-is)) (omega (arith, w.most-is, w.if-c-most.false)), omega (arith, w.most-is, c.loop-c.invariant.1))
-    ]
 
 pub returns : goal.returns
 returns c =
-    let xs = c.args.counts.now in
-    record {
-      covers = λ i. ⊎_elim (λ (h : i < c.loop-c.c-index). c.loop-c.invariant.0 i h)
-          (λ (h : c.loop-c.c-index ≤ i). omega (arith, get_or_past xs i 0 (omega arith))) (cases_lt i c.loop-c.c-index);
-      small = c.loop-c.invariant.1;
-    }
+    let cs = c.args.counts.now in
+    let most : c.unwrap_or.result ≡ largest cs =
+    c.unwrap_or.ensures ∙ ap (λ o. unwrap_or o 0) (sym (option_map_id _) ∙ max_from_yields_List _ _ c.max.ensures.ran (YieldsList-from_copied (YieldsList-from_slice cs cc))) ∙ most_is cs in
+    record { covers = λ i. subst (λ n. get_or cs i 0 ≤ n) (sym most) (covers cs i); small = subst (λ n. n ≤ 64) (sym most) (small cs c.requires) }

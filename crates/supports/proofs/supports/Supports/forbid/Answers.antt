@@ -5,18 +5,18 @@ use Rattle.model.specs.Words.{place, clear_at}
 use Rattle.model.proofs.Pairs.{Pair}
 use Rattle.model.proofs.Steps.{Made, ban_made, pair_joined}
 use Rattle.supports.specs.declared.supports.Supports.{Supports}
-use Rattle.supports.specs.Held.{held, supports_meaning}
+use Rattle.supports.specs.Held.{counts, joins, held, supports_meaning}
 use Rattle.supports.proofs.supports.Supports.forbid.Goals as goal
 
 -- the options exist, and have places
 record Known (s : Supports) (i a j b : ℕ) : Type 0 where
-  pair : Pair (vec_items s.counts) i a j b
+  pair : Pair (counts s) i a j b
   wide : (a < s.width) × (b < s.width)
 
 known : (s : Supports) (i a j b : ℕ) → (supports_meaning s).joined i j ≡ true → a < (supports_meaning s).count i → b < (supports_meaning s).count j → Known s i a j b
 known s i a j b jn ha hb =
     let sized = (held s).sized in
-    let p = pair_joined (vec_items s.counts) s.width (vec_items s.joins) (vec_items s.words) i a j b jn ha hb in
+    let p = pair_joined (counts s) s.width (joins s) (vec_items s.words) i a j b jn ha hb in
     let x : a < s.width = omega (arith, sized.counts_le i, p.a_lt) in
     let y : b < s.width = omega (arith, sized.counts_le j, p.b_lt) in
     record { pair = p; wide = (x, y) }
@@ -39,12 +39,12 @@ clear-requires-2 c =
     omega (arith, c.place_of-back.ensures.inside, len, c.args.self.now.words.ok.0, c.clear.new.words.ok.0)
 
 made : (s : Supports) (i a j b there back : ℕ) (once twice : List ℕ) → (supports_meaning s).joined i j ≡ true → a < (supports_meaning s).count i → b < (supports_meaning s).count j
-    → there ≡ place (length (vec_items s.counts)) s.width i a j → back ≡ place (length (vec_items s.counts)) s.width j b i
+    → there ≡ place (length (counts s)) s.width i a j → back ≡ place (length (counts s)) s.width j b i
     → once ≡ clear_at (vec_items s.words) there b → twice ≡ clear_at once back a
-    → Made (vec_items s.counts) s.width (vec_items s.joins) twice (with_ban i a j b (supports_meaning s))
+    → Made (counts s) s.width (joins s) twice (with_ban i a j b (supports_meaning s))
 made s i a j b there back once twice jn ha hb t u d e =
-    let n = length (vec_items s.counts) in
-    ban_made (vec_items s.counts) s.width (vec_items s.joins) (vec_items s.words) twice i a j b (held s) jn (known s i a j b jn ha hb).pair
+    let n = length (counts s) in
+    ban_made (counts s) s.width (joins s) (vec_items s.words) twice i a j b (held s) jn (known s i a j b jn ha hb).pair
     (e ∙ ap (λ x. clear_at x back a) d ∙ ap (λ x. clear_at (clear_at (vec_items s.words) x b) back a) t
     ∙ ap (λ x. clear_at (clear_at (vec_items s.words) (place n s.width i a j) b) x a) u)
 

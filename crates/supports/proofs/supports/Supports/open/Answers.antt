@@ -4,6 +4,7 @@ use Rattle.model.specs.Making.{counts_ok, no_rules}
 use Rattle.model.specs.Words.{Unruled}
 use Rattle.model.proofs.Steps.{Made, none_made}
 use Rattle.supports.specs.Adding.{fit}
+use Rattle.supports.specs.Lines.{counts_of, joins_of}
 use Rattle.supports.proofs.supports.Supports.open.Goals as goal
 
 opened : (cs given : List ℕ) (width : ℕ) (joins words : List ℕ) → fit given ≡ true → cs ≡ given → ((i : ℕ) → get_or given i 0 ≤ width) → width ≤ 64
@@ -16,12 +17,12 @@ opened cs given width joins words ok e le small ej len ew =
 
 pub invariant_of-result : goal.invariant_of-result
 invariant_of-result c = record {
-  good = ∣ (opened (vec_items c.in_ok-counts.counts) c.args.counts.now c.widest-width.result (vec_items c.in_ok-joins.joins) (vec_items c.in_ok-words.words)
-      c.requires c.in_ok-counts.ensures.items c.widest-width.ensures.covers c.widest-width.ensures.small
-      (c.in_ok-joins.ensures.items_if_clones_equal (λ y e. e)) (sym c.in_ok-words.words.ok.0 ∙ c.in_ok-words.ensures.sized) c.in_ok-words.ensures.words).compiled ∣₁;
+  good = ∣ (opened (counts_of (vec_items c.in_ok-lines.lines)) c.args.counts.now c.widest-width.result (joins_of (vec_items c.in_ok-lines.lines)) (vec_items c.in_ok-words.words)
+      c.requires c.in_ok-lines.ensures.counts c.widest-width.ensures.covers c.widest-width.ensures.small
+      c.in_ok-lines.ensures.joins (sym c.in_ok-words.words.ok.0 ∙ c.in_ok-words.ensures.sized) c.in_ok-words.ensures.words).compiled ∣₁;
 }
 
 pub returns : goal.returns
-returns c = (opened (vec_items c.in_ok-counts.counts) c.args.counts.now c.widest-width.result (vec_items c.in_ok-joins.joins) (vec_items c.in_ok-words.words)
-    c.requires c.in_ok-counts.ensures.items c.widest-width.ensures.covers c.widest-width.ensures.small
-    (c.in_ok-joins.ensures.items_if_clones_equal (λ y e. e)) (sym c.in_ok-words.words.ok.0 ∙ c.in_ok-words.ensures.sized) c.in_ok-words.ensures.words).means
+returns c = (opened (counts_of (vec_items c.in_ok-lines.lines)) c.args.counts.now c.widest-width.result (joins_of (vec_items c.in_ok-lines.lines)) (vec_items c.in_ok-words.words)
+    c.requires c.in_ok-lines.ensures.counts c.widest-width.ensures.covers c.widest-width.ensures.small
+    c.in_ok-lines.ensures.joins (sym c.in_ok-words.words.ok.0 ∙ c.in_ok-words.ensures.sized) c.in_ok-words.ensures.words).means

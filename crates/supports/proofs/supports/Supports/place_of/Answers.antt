@@ -1,12 +1,6 @@
-use Rattle.std.proofs.Common.{refl, arith}
+use Rattle.std.proofs.Common.{arith}
 use Rattle.supports.proofs.Indices.{within}
 use Rattle.supports.proofs.supports.Supports.place_of.Goals as goal
-
-pub overflow_mul-result : goal.overflow_mul-result
-overflow_mul-result c = omega (arith, (within c.args.self.now _ c.args.i c.args.a c.args.j refl c.requires.first c.requires.second c.requires.option).row)
-
-pub overflow_add-result : goal.overflow_add-result
-overflow_add-result c = omega (arith, (within c.args.self.now _ c.args.i c.args.a c.args.j refl c.requires.first c.requires.second c.requires.option).option)
 
 pub overflow_mul-result-2 : goal.overflow_mul-result-2
 overflow_mul-result-2 c = omega (arith, (within c.args.self.now c.len.result c.args.i c.args.a c.args.j c.len.ensures c.requires.first c.requires.second c.requires.option).before)
@@ -16,7 +10,5 @@ overflow_add-result-2 c =
     let w = within c.args.self.now c.len.result c.args.i c.args.a c.args.j c.len.ensures c.requires.first c.requires.second c.requires.option in
     omega (arith, w.before, w.last)
 
-pub returns : goal.returns
-returns c =
-    let w = within c.args.self.now c.len.result c.args.i c.args.a c.args.j c.len.ensures c.requires.first c.requires.second c.requires.option in
-    record { value = w.is; inside = w.inside }
+pub returns-clause-inside : goal.returns-clause-inside
+returns-clause-inside c = (within c.args.self.now c.len.result c.args.i c.args.a c.args.j c.len.ensures c.requires.first c.requires.second c.requires.option).inside
