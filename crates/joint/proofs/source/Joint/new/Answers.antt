@@ -1,7 +1,14 @@
-use Rattle.joint.proofs.Makings.{joint_makes}
+use Rattle.joint.proofs.Makings.{alike_equal, joint_makes}
 use Rattle.joint.proofs.source.Joint.new.Goals as goal
+
+pub invariant_of-result : goal.invariant_of-result
+invariant_of-result g c =
+    let m = g.A.RuleSource.meaning c.args.first in
+    let n = g.B.RuleSource.meaning c.args.second in
+    record { equal = alike_equal m n c.are_alike-alike.result c.are_alike-alike.ensures }
 
 pub returns : goal.returns
 returns g c =
-    joint_makes (g.A.RuleSource.meaning c.args.first) (g.B.RuleSource.meaning c.args.second) (g.A.RuleSource.lawful c.args.first) (g.B.RuleSource.lawful c.args.second)
-    c.are_alike-alike.result c.are_alike-alike.ensures
+    let m = g.A.RuleSource.meaning c.args.first in
+    let n = g.B.RuleSource.meaning c.args.second in
+    joint_makes m n c.are_alike-alike.result c.are_alike-alike.ensures
