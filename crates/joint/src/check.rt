@@ -8,11 +8,7 @@ use rules::fault::SourceFault;
 use rules::source::RuleSource;
 
 // The first of so many lines on which the option counts differ.
-fn first_unequal<A: RuleSource, B: RuleSource>(
-    first: &A,
-    second: &B,
-    lines: usize,
-) -> Option<usize>
+fn first_unequal<A: RuleSource, B: RuleSource>(first: &A, second: &B, lines: usize) -> Option<usize>
     requires first { (A.RuleSource.meaning first.now).lines ≤ lines }
     requires second { (B.RuleSource.meaning second.now).lines ≤ lines }
     ensures { Least (unequal (A.RuleSource.meaning first.now) (B.RuleSource.meaning second.now)) 0 result }

@@ -90,7 +90,10 @@ impl<A: RuleSource, B: RuleSource> RuleSource for Joint<A, B> {
         if !self.alike {
             return None;
         }
-        nearer(self.first.next_joined(i, from), self.second.next_joined(i, from))
+        nearer(
+            self.first.next_joined(i, from),
+            self.second.next_joined(i, from),
+        )
     }
 
     // The lines that either source names.

@@ -1,7 +1,7 @@
 // The ranges of the numbers k and m of each kind, and whether a rule allows two values. Sums are taken
 // wide, so that none wraps.
 ghost use Rattle.std.specs.Prelude.{◌≡◌, pos, ◌+ℤ◌, ◌-ℤ◌, ◌≤ℤ◌, unsigned_abs};
-ghost use Rattle.kinds.specs.Kinds.{after, allowed_by, apart, exact, in_range, same, step, wide};
+ghost use Rattle.kinds.specs.Kinds.{after, allowed_by, apart, exact, in_range, step, wide};
 ghost use Rattle.std.specs.Int.{int_div_euclid};
 
 use crate::kind::Kind;
@@ -29,7 +29,7 @@ impl Kind {
             Kind::Apart => is_apart(k, x, y),
             Kind::Exact => is_exact(k, x, y),
             Kind::After => is_after(k, x, y),
-            Kind::Either => is_after(k, x, y) | is_after(m, y, x),
+            Kind::Either => is_after(k, x, y) || is_after(m, y, x),
             Kind::Step => is_step(k, m, x, y),
         }
     }
@@ -85,16 +85,8 @@ fn is_after(k: i32, x: i32, y: i32) -> bool
     sum(x, k) <= i64::from(y)
 }
 
-// Whether the difference divided by m and rounded down is k.
-fn quotient_is(k: i32, m: i32, x: i32, y: i32) -> bool
-    requires { pos 1 ≤ℤ m }
-    ensures { result ≡ same (int_div_euclid (x -ℤ y) m) k }
-{
-    quotient(m, x, y) == i64::from(k)
-}
-
 fn is_step(k: i32, m: i32, x: i32, y: i32) -> bool
     ensures { result ≡ step k m x y }
 {
-    m >= 1 && quotient_is(k, m, x, y)
+    m >= 1 && quotient(m, x, y) == i64::from(k)
 }
