@@ -1,7 +1,7 @@
 // The ranges of the numbers k and m of each kind, and whether a rule allows two values. Sums are taken
 // wide, so that none wraps.
 ghost use Rattle.std.specs.Prelude.{◌≡◌, pos, ◌+ℤ◌, ◌-ℤ◌, ◌≤ℤ◌, unsigned_abs};
-ghost use Rattle.kinds.specs.Kinds.{after, allowed_by, apart, exact, in_range, step, wide};
+ghost use Rattle.kinds.specs.Kinds.{after, allowed_by, in_range, step, wide};
 ghost use Rattle.std.specs.Int.{int_div_euclid};
 
 use crate::kind::Kind;
@@ -26,8 +26,8 @@ impl Kind {
         ensures { result ≡ allowed_by self k m x y }
     {
         match self {
-            Kind::Apart => is_apart(k, x, y),
-            Kind::Exact => is_exact(k, x, y),
+            Kind::Apart => i64::from(k) < distance(x, y),
+            Kind::Exact => distance(x, y) == i64::from(k),
             Kind::After => is_after(k, x, y),
             Kind::Either => is_after(k, x, y) || is_after(m, y, x),
             Kind::Step => is_step(k, m, x, y),
@@ -65,18 +65,6 @@ fn quotient(m: i32, x: i32, y: i32) -> i64
     ensures { result ≡ int_div_euclid (x -ℤ y) m }
 {
     difference(x, y).div_euclid(i64::from(m))
-}
-
-fn is_apart(k: i32, x: i32, y: i32) -> bool
-    ensures { result ≡ apart k x y }
-{
-    i64::from(k) < distance(x, y)
-}
-
-fn is_exact(k: i32, x: i32, y: i32) -> bool
-    ensures { result ≡ exact k x y }
-{
-    distance(x, y) == i64::from(k)
 }
 
 fn is_after(k: i32, x: i32, y: i32) -> bool
