@@ -73,11 +73,14 @@ impl<A: RuleSource, B: RuleSource> RuleSource for Joint<A, B> {
         self.alike && self.first.together(i, a, j, b) && self.second.together(i, a, j, b)
     }
 
-    // The next option that goes by the first source, until one goes by both.
+    // The next option that goes by the first source, until one goes by the second too.
     fn next_support(&self, i: usize, a: usize, j: usize, from: usize) -> Option<usize> {
+        if !self.alike {
+            return None;
+        }
         let mut at = from;
         while let Some(b) = self.first.next_support(i, a, j, at) {
-            if self.together(i, a, j, b) {
+            if self.second.together(i, a, j, b) {
                 return Some(b);
             }
             at = b + 1;
