@@ -74,6 +74,7 @@ impl<A: RuleSource, B: RuleSource> RuleSource for Joint<A, B> {
     }
 
     // The next option that goes by the first source, until one goes by the second too.
+    #[tactic(auto, using(model::proofs::Facts::support_few))]
     fn next_support(&self, i: usize, a: usize, j: usize, from: usize) -> Option<usize> {
         if !self.alike {
             return None;
