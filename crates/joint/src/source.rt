@@ -36,6 +36,7 @@ pub struct Joint<A: RuleSource, B: RuleSource> {
 
 impl<A: RuleSource, B: RuleSource> Joint<A, B> {
     // The two sources as one, or the bare source where their option counts differ.
+    #[tactic(auto, using(crate::proofs::Makings::alike_equal, crate::proofs::Makings::joint_makes))]
     pub fn new(first: A, second: B) -> Joint<A, B>
         ensures { Makes (joint_fault (A.RuleSource.meaning first) (B.RuleSource.meaning second)) (both (A.RuleSource.meaning first) (B.RuleSource.meaning second)) (joint result.alike (A.RuleSource.meaning result.first) (B.RuleSource.meaning result.second)) }
     {
