@@ -4,10 +4,12 @@ use filters::queue::by_queue;
 use filters::rounds::by_rounds;
 use formula::records::{Formula, LineRecord, RuleRecord};
 use formula::source::FormulaSource;
+use kinds::kind::Kind;
 use levels::arc::Arc;
 use levels::level::Level;
 use neighbourhood::Neighbourhood;
 use singleton::Singleton;
+use std::array;
 use std::process::Abort;
 use std::test::Fail;
 use supports::parts::Parts;
@@ -26,7 +28,7 @@ fn ring(
             let steps = second - first;
             if steps <= reach || lines - steps <= reach {
                 rules.push(RuleRecord {
-                    kind: 1,
+                    kind: u8::from(Kind::Apart),
                     first,
                     second,
                     k: 0,
@@ -49,22 +51,13 @@ fn ring(
 
 // How many options of a set are left.
 fn standing(set: &[u64]) -> u32 {
-    let mut n = 0u32;
-    for word in set {
-        n = n.saturating_add(word.count_ones());
-    }
-    n
+    set.iter()
+        .fold(0, |n, word| n.saturating_add(word.count_ones()))
 }
 
 // So many words of five are the given one.
 fn opened(lines: usize, word: u64) -> [u64; 5] {
-    let mut set = [0; 5];
-    for line in 0..5 {
-        if line < lines {
-            set[line] = word;
-        }
-    }
-    set
+    array::from_fn(|line| if line < lines { word } else { 0 })
 }
 
 // Both ways leave so many options of a set with the given word for each line.
@@ -173,10 +166,10 @@ fn trials(rt: HostRuntime) -> Result<(), Fail> {
     assert_eq!(rt; by_queue(&singleton, &mut set), Outcome::Settled);
     assert_eq!(rt; set, [1, 6, 6]);
     assert!(rt; singleton.trial(&set, 1, 0).is_none());
-    match singleton.trial(&set, 1, 1) {
-        Some(left) => assert!(rt; left[0] == 1 && left[1] == 2 && left[2] == 4),
-        None => assert!(rt; false),
-    }
+    let left = singleton
+        .trial(&set, 1, 1)
+        .ok_or("the trial leaves nothing")?;
+    assert!(rt; left[0] == 1 && left[1] == 2 && left[2] == 4);
     assert!(rt; singleton.touches(0, 2) && !singleton.touches(1, 1) && !singleton.touches(0, 3));
     Ok(())
 }

@@ -3,24 +3,23 @@ use filters::outcome::Outcome;
 use filters::rounds::by_rounds;
 use formula::records::{Formula, LineRecord, RuleRecord};
 use formula::source::FormulaSource;
+use kinds::kind::Kind;
 use levels::arc::Arc;
 use std::test::Fail;
 use supports::parts::Parts;
 
 // So many lines with the values 0 to 2, each with a rule of the kind to the next.
-fn chain(rt: &HostRuntime, n: usize, kind: u8, k: i32) -> Result<FormulaSource, Fail> {
-    let mut rules = Vec::new(rt.alloc());
-    for first in 0..n {
-        if first + 1 < n {
-            rules.push(RuleRecord {
-                kind,
-                first,
-                second: first + 1,
-                k,
-                m: 0,
-            })?;
-        }
-    }
+fn chain(rt: &HostRuntime, n: usize, kind: Kind, k: i32) -> Result<FormulaSource, Fail> {
+    let rules: Vec<RuleRecord> = (0..n)
+        .zip(1..n)
+        .map(|(first, second)| RuleRecord {
+            kind: u8::from(kind),
+            first,
+            second,
+            k,
+            m: 0,
+        })
+        .collect(rt.alloc())?;
     let lines = vec![in rt.alloc(); LineRecord { start: 0, count: 3 }; n]?;
     let parts = Formula {
         lines: &lines,
@@ -34,7 +33,7 @@ fn chain(rt: &HostRuntime, n: usize, kind: u8, k: i32) -> Result<FormulaSource, 
 // the last line.
 #[test]
 fn rising(rt: HostRuntime) -> Result<(), Fail> {
-    let source = chain(&rt, 3, 3, 1)?;
+    let source = chain(&rt, 3, Kind::After, 1)?;
     let mut set = [7, 7 + 32, 7, 9];
     assert_eq!(rt;
         by_rounds(&Arc { source: &source }, &mut set),
@@ -47,7 +46,7 @@ fn rising(rt: HostRuntime) -> Result<(), Fail> {
 // Four rising lines of three options have no plan.
 #[test]
 fn no_plan(rt: HostRuntime) -> Result<(), Fail> {
-    let source = chain(&rt, 4, 3, 1)?;
+    let source = chain(&rt, 4, Kind::After, 1)?;
     let mut set = [7, 7, 7, 7 + 32];
     assert_eq!(rt;
         by_rounds(&Arc { source: &source }, &mut set),
@@ -60,7 +59,7 @@ fn no_plan(rt: HostRuntime) -> Result<(), Fail> {
 // A missing word is zero, so its line is empty.
 #[test]
 fn missing_word(rt: HostRuntime) -> Result<(), Fail> {
-    let source = chain(&rt, 3, 1, 0)?;
+    let source = chain(&rt, 3, Kind::Apart, 0)?;
     let mut set = [7, 7];
     assert_eq!(rt;
         by_rounds(&Arc { source: &source }, &mut set),
@@ -73,7 +72,7 @@ fn missing_word(rt: HostRuntime) -> Result<(), Fail> {
 // Lines that differ from their neighbours keep all their options at arc.
 #[test]
 fn apart(rt: HostRuntime) -> Result<(), Fail> {
-    let source = chain(&rt, 3, 1, 0)?;
+    let source = chain(&rt, 3, Kind::Apart, 0)?;
     let mut set = [3, 3, 3];
     assert_eq!(rt;
         by_rounds(&Arc { source: &source }, &mut set),

@@ -17,19 +17,12 @@ fn check(lines: &[LineRecord], values: &[i32], rules: &[RuleRecord]) -> Result<(
 
 // The number of a check's answer, and 0 where it passes.
 fn number(r: Result<(), SourceFault>) -> u8 {
-    match r {
-        Ok(()) => 0,
-        Err(fault) => fault.number(),
-    }
+    r.err().map_or(0, |fault| fault.number())
 }
 
 // So many values from 0 on.
 fn values(heap: Global, n: i32) -> Result<Vec<i32>, AllocError> {
-    let mut all = Vec::new(heap);
-    for v in 0..n {
-        all.push(v)?;
-    }
-    Ok(all)
+    (0..n).collect(heap)
 }
 
 fn rule(kind: u8, k: i32, m: i32) -> RuleRecord {

@@ -145,19 +145,12 @@ fn view(rt: HostRuntime) -> Result<(), Fail> {
     assert!(rt; View::new(&source, &[]).is_none());
     assert!(rt; View::new(&source, &[0; 129]).is_none());
     let shown = [2, 0];
-    match View::new(&source, &shown) {
-        Some(view) => {
-            assert_eq!(rt; view.lines(), 2);
-            assert!(rt; view.count(0) == 4 && view.count(1) == 2 && view.count(2) == 0);
-            assert!(rt; view.joined(0, 1) && !view.joined(0, 2));
-            assert!(rt; view.together(1, 0, 0, 1) && !view.together(1, 0, 0, 2));
-            assert_eq!(rt; view.next_support(0, 2, 1, 0), Some(1));
-            assert_eq!(rt; view.joined_lines(0), 2);
-            Ok(())
-        }
-        None => {
-            assert!(rt; false);
-            Ok(())
-        },
-    }
+    let view = View::new(&source, &shown).ok_or("no view of two lines")?;
+    assert_eq!(rt; view.lines(), 2);
+    assert!(rt; view.count(0) == 4 && view.count(1) == 2 && view.count(2) == 0);
+    assert!(rt; view.joined(0, 1) && !view.joined(0, 2));
+    assert!(rt; view.together(1, 0, 0, 1) && !view.together(1, 0, 0, 2));
+    assert_eq!(rt; view.next_support(0, 2, 1, 0), Some(1));
+    assert_eq!(rt; view.joined_lines(0), 2);
+    Ok(())
 }

@@ -1,2 +1,2 @@
 pub mod Makings
-pub mod Unjoined
+pub mod Counts

@@ -1,10 +1,10 @@
 // Two sources as one: lines are joined if either joins them, and options go together if both say so.
-ghost use Rattle.std.specs.Prelude.{◌≡◌, MatchBool};
-ghost use Rattle.joint.specs.Faults.{joint_fault};
-ghost use Rattle.joint.specs.Nearer.{below, nearer};
+ghost use Rattle.std.specs.Prelude.{◌≡◌, true};
+ghost use Rattle.joint.specs.Faults.{FoundAlike, joint_fault};
+ghost use Rattle.joint.specs.Nearer.{nearer};
 ghost use Rattle.model.proofs.Joining.{joint_lawful};
-ghost use Rattle.model.specs.Joints.{both, joint};
-ghost use Rattle.rules.specs.Faults.{Faulty, Makes, Sound};
+ghost use Rattle.model.specs.Joints.{EqualCounts, both, joint};
+ghost use Rattle.rules.specs.Faults.{Makes};
 
 use crate::check::check_joint;
 use bits::either;
@@ -12,47 +12,31 @@ use rules::source::RuleSource;
 
 // Whether the check passes.
 fn are_alike<A: RuleSource, B: RuleSource>(first: &A, second: &B) -> bool
-    ensures { MatchBool result (Sound (joint_fault (A.RuleSource.meaning first.now) (B.RuleSource.meaning second.now))) (Faulty (joint_fault (A.RuleSource.meaning first.now) (B.RuleSource.meaning second.now))) }
+    ensures { FoundAlike result (A.RuleSource.meaning first.now) (B.RuleSource.meaning second.now) }
 {
-    match check_joint(first, second) {
-        Ok(()) => true,
-        Err(_) => false,
-    }
+    check_joint(first, second).is_ok()
 }
 
 // The smaller of two numbers that may be missing.
 fn nearer(x: Option<usize>, y: Option<usize>) -> Option<usize>
     ensures { result ≡ nearer x y }
 {
-    match (x, y) {
-        (None, y) => y,
-        (x, None) => x,
-        (Some(j), Some(k)) => Some(j.min(k)),
-    }
+    x.zip(y).map(|(j, k)| j.min(k)).or(x).or(y)
 }
 
-// The number, if it is there and below the limit.
-fn below(x: Option<usize>, limit: usize) -> Option<usize>
-    ensures { result ≡ below x limit }
-{
-    match x {
-        Some(j) if j < limit => Some(j),
-        _ => None,
-    }
-}
-
-// Nothing but the flag ties the two sources, so the answers are lawful for any two: the second is read
-// only of lines of the first that it joins. Where the counts are equal this leaves nothing out.
 #[derive(Drop)]
 pub struct Joint<A: RuleSource, B: RuleSource> {
     first: A,
     second: B,
     // whether the check passed; the source is the bare one where it did not
     alike: bool,
+    // so the two are one source where it did
+    ghost equal: { alike ≡ true → EqualCounts (A.RuleSource.meaning first) (B.RuleSource.meaning second) },
 }
 
 impl<A: RuleSource, B: RuleSource> Joint<A, B> {
     // The two sources as one, or the bare source where their option counts differ.
+    #[tactic(auto, using(crate::proofs::Makings::alike_equal, crate::proofs::Makings::joint_makes))]
     pub fn new(first: A, second: B) -> Joint<A, B>
         ensures { Makes (joint_fault (A.RuleSource.meaning first) (B.RuleSource.meaning second)) (both (A.RuleSource.meaning first) (B.RuleSource.meaning second)) (joint result.alike (A.RuleSource.meaning result.first) (B.RuleSource.meaning result.second)) }
     {
@@ -68,7 +52,7 @@ impl<A: RuleSource, B: RuleSource> Joint<A, B> {
 impl<A: RuleSource, B: RuleSource> RuleSource for Joint<A, B> {
     ghost meaning = { λ x. joint x.alike (A.RuleSource.meaning x.first) (B.RuleSource.meaning x.second) };
 
-    ghost lawful = { λ x. joint_lawful x.alike (A.RuleSource.meaning x.first) (B.RuleSource.meaning x.second) (A.RuleSource.lawful x.first) (B.RuleSource.lawful x.second) };
+    ghost lawful = { λ x. joint_lawful x.alike (A.RuleSource.meaning x.first) (B.RuleSource.meaning x.second) (A.RuleSource.lawful x.first) (B.RuleSource.lawful x.second) x.equal };
 
     fn lines(&self) -> usize {
         if self.alike { self.first.lines() } else { 1 }
@@ -77,30 +61,28 @@ impl<A: RuleSource, B: RuleSource> RuleSource for Joint<A, B> {
     fn count(&self, line: usize) -> usize {
         if self.alike {
             self.first.count(line)
-        } else if line == 0 {
-            1
         } else {
-            0
+            usize::from(line == 0)
         }
     }
 
     fn joined(&self, i: usize, j: usize) -> bool {
-        let lines = self.first.lines();
-        self.alike
-            && (self.first.joined(i, j) || self.second.joined(i, j) && i < lines && j < lines)
+        self.alike && (self.first.joined(i, j) || self.second.joined(i, j))
     }
 
     fn together(&self, i: usize, a: usize, j: usize, b: usize) -> bool {
-        self.alike
-            && self.first.together(i, a, j, b)
-            && (!self.second.joined(i, j) || self.second.together(i, a, j, b))
+        self.alike && self.first.together(i, a, j, b) && self.second.together(i, a, j, b)
     }
 
-    // The next option that goes by the first source, until one goes by both.
+    // The next option that goes by the first source, until one goes by the second too.
+    #[tactic(auto, using(model::proofs::Facts::support_few))]
     fn next_support(&self, i: usize, a: usize, j: usize, from: usize) -> Option<usize> {
+        if !self.alike {
+            return None;
+        }
         let mut at = from;
         while let Some(b) = self.first.next_support(i, a, j, at) {
-            if self.together(i, a, j, b) {
+            if self.second.together(i, a, j, b) {
                 return Some(b);
             }
             at = b + 1;
@@ -110,25 +92,20 @@ impl<A: RuleSource, B: RuleSource> RuleSource for Joint<A, B> {
 
     // The nearer of the lines that the two sources name.
     fn next_joined(&self, i: usize, from: usize) -> Option<usize> {
-        let lines = self.first.lines();
-        if !self.alike || i >= lines {
+        if !self.alike {
             return None;
         }
         nearer(
             self.first.next_joined(i, from),
-            below(self.second.next_joined(i, from), lines),
+            self.second.next_joined(i, from),
         )
     }
 
     // The lines that either source names.
     fn joined_lines(&self, i: usize) -> u128 {
-        let lines = self.first.lines();
-        if !self.alike || i >= lines {
+        if !self.alike {
             return 0;
         }
-        either(
-            self.first.joined_lines(i),
-            bits::below(self.second.joined_lines(i), lines),
-        )
+        either(self.first.joined_lines(i), self.second.joined_lines(i))
     }
 }

@@ -1,6 +1,7 @@
 -- What a rule says of two values, over integers that never wrap.
-use Rattle.std.specs.Prelude.{ℕ, Bool, cond, ◌&&◌, ◌||◌, ℤ, pos, negsuc, ◌+ℤ◌, ◌-ℤ◌, ◌*ℤ◌, Some, None, Option, ◌==◌, int_le, int_lt, unsigned_abs}
+use Rattle.std.specs.Prelude.{ℕ, Bool, cond, ◌&&◌, ◌||◌, ℤ, pos, negsuc, ◌+ℤ◌, ◌-ℤ◌, ◌*ℤ◌, Some, None, Option, Result, ◌==◌, int_le, int_lt, ok_or, unsigned_abs}
 use Rattle.kinds.specs.declared.kind.Kind.{Kind}
+use Rattle.kinds.specs.declared.kind.NoSuchKind.{NoSuchKind}
 use Rattle.kinds.specs.declared.kind.Kind.TheVariants.{Apart, Exact, After, Either, Step}
 
 -- the kind of each number
@@ -11,6 +12,18 @@ kind_of n =
     (cond (n == 3) (Some After)
     (cond (n == 4) (Some Either)
     (cond (n == 5) (Some Step) None))))
+
+-- the number of each kind
+abbrev pub number_of : Kind → ℕ
+number_of Apart = 1
+number_of Exact = 2
+number_of After = 3
+number_of Either = 4
+number_of Step = 5
+
+-- the kind of a number, or the number where it has none
+abbrev pub kind_or_number : ℕ → Result Kind NoSuchKind
+kind_or_number n = ok_or (kind_of n) (record { 0 = n })
 
 abbrev pub same : ℤ → ℤ → Bool
 same x y = int_le x y && int_le y x

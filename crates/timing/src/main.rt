@@ -12,12 +12,11 @@ use filters::queue::by_queue;
 use filters::theorems::OptionSet;
 use levels::arc::Arc;
 use rules::fault::SourceFault;
-use rules::parts::item_from;
 use rules::source::RuleSource;
 use singleton::Singleton;
 use std::alloc::{AllocError, Global};
 use std::time::Instant;
-use std::{env, fs};
+use std::{array, env, fs, slice};
 use supports::parts::Parts;
 use tables::records::{Table, TableRecord};
 use tables::source::TableSource;
@@ -32,32 +31,33 @@ struct Wall {
 
 // The numbers of the text.
 fn numbers(heap: Global, text: &str) -> anyhow::Result<Vec<u64>> {
-    let mut all = Vec::new(heap);
-    for word in text.split_whitespace() {
-        all.push(word.parse::<u64>()?)?;
-    }
-    Ok(all)
+    text.split_whitespace()
+        .map(|word| -> anyhow::Result<u64> { Ok(word.parse::<u64>()?) })
+        .try_collect(heap)
 }
 
-// The wall of the numbers; what is missing is 0.
+// The next of the numbers; what is missing is 0.
+fn next(left: &mut slice::Iter<'_, u64>) -> u64 {
+    left.next().copied().unwrap_or(0)
+}
+
+// The wall of the numbers.
 fn parts_of(heap: Global, numbers: &[u64]) -> Result<Wall, AllocError> {
-    let lines = item_from(numbers, 0, 0, 0) as usize;
-    let options = item_from(numbers, 1, 0, 0) as usize;
-    let rules = item_from(numbers, 2, 0, 0) as usize;
+    let mut left = numbers.iter();
+    let lines = next(&mut left) as usize;
+    let options = next(&mut left) as usize;
+    let rules = next(&mut left);
     let mut records = Vec::new(heap);
     let mut table = Vec::new(heap);
-    let mut at = 3usize;
     for _ in 0..rules {
         records.push(TableRecord {
-            first: item_from(numbers, at, 0, 0) as usize,
-            second: item_from(numbers, at, 1, 0) as usize,
+            first: next(&mut left) as usize,
+            second: next(&mut left) as usize,
             start: table.len(),
         })?;
-        at = at.saturating_add(2);
-        for a in 0..options {
-            table.push(item_from(numbers, at, a, 0))?;
+        for _ in 0..options {
+            table.push(next(&mut left))?;
         }
-        at = at.saturating_add(options);
     }
     Ok(Wall {
         counts: vec![in heap; options; lines]?,
@@ -68,20 +68,13 @@ fn parts_of(heap: Global, numbers: &[u64]) -> Result<Wall, AllocError> {
 
 // All options of the source.
 fn opened<S: RuleSource>(source: &S) -> OptionSet {
-    let mut set = [0; 128];
-    for line in 0..128 {
-        set[line] = ones(source.count(line));
-    }
-    set
+    array::from_fn(|line| ones(source.count(line)))
 }
 
 // How many options stand.
 fn standing(set: &OptionSet) -> u32 {
-    let mut n = 0u32;
-    for word in set {
-        n = n.saturating_add(word.count_ones());
-    }
-    n
+    set.iter()
+        .fold(0, |n, word| n.saturating_add(word.count_ones()))
 }
 
 // One run, and how long it took.
@@ -113,8 +106,7 @@ fn filter(rt: &HostRuntime, source: &TableSource, runs: Option<u32>) -> anyhow::
     };
     let left = standing(&set);
     println!(rt; "{how}, {left} options left")?;
-    for line in 0..source.lines() {
-        let word = levels::words::word(&set, line);
+    for word in set.iter().take(source.lines()) {
         print!(rt; "{word:x} ")?;
     }
     println!(rt; "")?;
@@ -126,16 +118,12 @@ fn filter(rt: &HostRuntime, source: &TableSource, runs: Option<u32>) -> anyhow::
 
 // The file's name and how often to run, from the arguments.
 fn arguments(rt: &HostRuntime) -> anyhow::Result<(String, Option<u32>)> {
-    let mut words = env::args(rt)?;
-    let _ = words.next();
+    let mut words = env::args(rt)?.skip(1);
     let file = match words.next() {
         Some(name) => name,
         None => String::from_str(rt.alloc(), "wall.txt")?,
     };
-    let runs = match words.next() {
-        Some(n) => Some(n.as_str().parse::<u32>()?),
-        None => None,
-    };
+    let runs = words.next().map(|n| n.as_str().parse::<u32>()).transpose()?;
     Ok((file, runs))
 }
 
