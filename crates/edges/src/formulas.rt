@@ -75,10 +75,7 @@ fn option_counts(rt: HostRuntime) -> Result<(), Fail> {
 #[test]
 fn value_ranges(rt: HostRuntime) {
     let line = LineRecord { start: 0, count: 2 };
-    assert_eq!(rt;
-        number(check(&[line], &[-1_000_000, 1_000_000], &[])),
-        0
-    );
+    assert_eq!(rt; number(check(&[line], &[-1_000_000, 1_000_000], &[])), 0);
     assert_eq!(rt; number(check(&[line], &[-1_000_001, 0], &[])), 3);
     assert_eq!(rt; number(check(&[line], &[0, 1_000_001], &[])), 3);
     assert_eq!(rt; number(check(&[line], &[5, 5], &[])), 3);
@@ -90,10 +87,7 @@ fn record_counts(rt: HostRuntime) -> Result<(), Fail> {
     let line = LineRecord { start: 0, count: 1 };
     for (n, expected) in [(2048usize, 0u8), (2049, 4)] {
         let rules = vec![in rt.alloc(); rule(1, 0, 0); n]?;
-        assert_eq!(rt;
-            number(check(&[line, line], &[0], &rules)),
-            expected
-        );
+        assert_eq!(rt; number(check(&[line, line], &[0], &rules)), expected);
     }
     Ok(())
 }

@@ -77,18 +77,12 @@ fn records(rt: HostRuntime) -> Result<(), Fail> {
 // A record has a word for each option of its first line, and they end inside the table.
 #[test]
 fn words(rt: HostRuntime) {
-    assert_eq!(rt;
-        check(&[2, 3], &[record(0, 1, 1)], &[0, 0, 0]),
-        Ok(())
-    );
+    assert_eq!(rt; check(&[2, 3], &[record(0, 1, 1)], &[0, 0, 0]), Ok(()));
     assert_eq!(rt;
         check(&[2, 3], &[record(0, 1, 2)], &[0, 0, 0]),
         Err(SourceFault::Words(0))
     );
-    assert_eq!(rt;
-        check(&[2, 3], &[record(1, 0, 0)], &[0, 0, 0]),
-        Ok(())
-    );
+    assert_eq!(rt; check(&[2, 3], &[record(1, 0, 0)], &[0, 0, 0]), Ok(()));
     assert_eq!(rt;
         check(&[2, 3], &[record(0, 1, 0), record(1, 0, 1)], &[0, 0, 0]),
         Err(SourceFault::Words(1))
