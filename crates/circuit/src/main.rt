@@ -110,16 +110,22 @@ struct Words(RuleRecord);
 
 impl fmt::Display for Words {
     fn fmt<W: fmt::Write>(&self, f: &mut fmt::Formatter<W>) -> fmt::Result {
-        let RuleRecord { kind, k, m, .. } = self.0;
-        let x = Name(self.0.first);
-        let y = Name(self.0.second);
-        match Kind::numbered(kind) {
-            Some(Kind::Apart) => write!(f, "{x} and {y} are more than {k} apart"),
-            Some(Kind::Exact) => write!(f, "{x} and {y} are {k} apart"),
-            Some(Kind::After) => write!(f, "{x} + {k} <= {y}"),
-            Some(Kind::Either) => write!(f, "{x} + {k} <= {y}, or {y} + {m} <= {x}"),
-            Some(Kind::Step) => write!(f, "({x} - {y}) / {m}, rounded down, is {k}"),
-            None => write!(f, "no rule"),
+        let RuleRecord {
+            kind,
+            first,
+            second,
+            k,
+            m,
+        } = self.0;
+        let x = Name(first);
+        let y = Name(second);
+        match Kind::try_from(kind) {
+            Ok(Kind::Apart) => write!(f, "{x} and {y} are more than {k} apart"),
+            Ok(Kind::Exact) => write!(f, "{x} and {y} are {k} apart"),
+            Ok(Kind::After) => write!(f, "{x} + {k} <= {y}"),
+            Ok(Kind::Either) => write!(f, "{x} + {k} <= {y}, or {y} + {m} <= {x}"),
+            Ok(Kind::Step) => write!(f, "({x} - {y}) / {m}, rounded down, is {k}"),
+            Err(_) => write!(f, "no rule"),
         }
     }
 }

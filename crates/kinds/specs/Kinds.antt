@@ -1,5 +1,5 @@
 -- What a rule says of two values, over integers that never wrap.
-use Rattle.std.specs.Prelude.{ℕ, Bool, cond, ◌&&◌, ◌||◌, ℤ, pos, negsuc, ◌+ℤ◌, ◌-ℤ◌, ◌*ℤ◌, Some, None, Option, Result, ◌==◌, int_le, int_lt, ok_or, unsigned_abs}
+use Rattle.std.specs.Prelude.{ℕ, Bool, cond, ◌&&◌, ◌||◌, ℤ, pos, negsuc, ◌+ℤ◌, ◌-ℤ◌, ◌*ℤ◌, Some, None, Option, Result, List, ◌++◌, ◌==◌, codes, decimal, int_le, int_lt, ok_or, unsigned_abs}
 use Rattle.kinds.specs.declared.kind.Kind.{Kind}
 use Rattle.kinds.specs.declared.kind.NoSuchKind.{NoSuchKind}
 use Rattle.kinds.specs.declared.kind.Kind.TheVariants.{Apart, Exact, After, Either, Step}
@@ -24,6 +24,10 @@ number_of Step = 5
 -- the kind of a number, or the number where it has none
 abbrev pub kind_or_number : ℕ → Result Kind NoSuchKind
 kind_or_number n = ok_or (kind_of n) (record { 0 = n })
+
+-- what is printed of a number that no kind has
+abbrev pub no_kind_text : ℕ → List ℕ
+no_kind_text n = codes "no kind of rule has the number " ++ decimal n
 
 abbrev pub same : ℤ → ℤ → Bool
 same x y = int_le x y && int_le y x

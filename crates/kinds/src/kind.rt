@@ -1,6 +1,6 @@
 // The kinds of rules and their numbers.
 ghost use Rattle.std.specs.Prelude.{◌≡◌, Some};
-ghost use Rattle.kinds.specs.Kinds.{kind_of, kind_or_number, number_of};
+ghost use Rattle.kinds.specs.Kinds.{kind_of, kind_or_number, no_kind_text, number_of};
 
 use std::error::Error;
 use std::fmt;
@@ -25,6 +25,8 @@ pub enum Kind {
 pub struct NoSuchKind(pub u8);
 
 impl fmt::Display for NoSuchKind {
+    ghost output = { λ e. Some (no_kind_text e.0) };
+
     fn fmt<W: fmt::Write>(&self, f: &mut fmt::Formatter<W>) -> fmt::Result {
         write!(f, "no kind of rule has the number {}", self.0)
     }
