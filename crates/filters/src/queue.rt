@@ -44,6 +44,7 @@ impl Queue {
     }
 
     // The first line that waits: the one with the least ticket.
+    // Kept: a loop; filter and min_by_key, filter_map and min, flatten and min were tried and not proved.
     fn first(&self) -> Option<usize>
         ensures { MatchOption result (NoneWaits self.now.tickets) (First self.now.tickets) }
     {

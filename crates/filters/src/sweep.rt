@@ -63,8 +63,8 @@ pub(crate) fn each_line_stands<L: Level>(level: &L, set: &[u64]) -> Result<(), E
 pub(crate) fn strike_all<L: Level>(level: &L, set: &mut [u64])
     ensures { (i b : ℕ) → on (slice_index set.new i) b ≡ (on (slice_index set.old i) b && nat_le ((L.meaning level.now).count i) b) }
 {
-    for (i, word) in set.iter_mut().enumerate() {
-        *word = above(*word, level.count(i));
+    for (i, options) in set.iter_mut().enumerate() {
+        *options = above(*options, level.count(i));
     }
 }
 

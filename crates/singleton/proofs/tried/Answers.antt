@@ -1,7 +1,6 @@
 use Rattle.std.proofs.Common.{sym, ap, ◌∙◌, arith}
 use Rattle.std.proofs.lemmas.Bool.{both_ways}
 use Rattle.bits.specs.Bits.{on}
-use Rattle.model.proofs.Facts.{line_real}
 use Rattle.singleton.proofs.Trials.{tried_none, tried_full, tried_empty}
 use Rattle.singleton.proofs.tried.Goals as goal
 
@@ -15,12 +14,6 @@ returns-then-option-count g c =
       | goal.then-option-count-via-else-option-count+then-not-has w ↦
           both_ways (on w.word.result a) (sym w.has.ensures ∙ w.if-not-has.true) (ap (λ n. on n a) w.word.ensures ∙ p.here.2)
     ])
-
-pub hold-held-requires : goal.hold-held-requires
-hold-held-requires g c =
-    let x = c.args.below.now in
-    let law = g.met.L.Level.lawful x in
-    omega (arith, law.limits.few_lines, line_real (g.L.Level.meaning x) law c.args.line c.args.option (omega arith))
 
 -- the run left an option of each line
 pub returns-in-Settled : goal.returns-in-Settled

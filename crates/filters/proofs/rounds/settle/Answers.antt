@@ -18,6 +18,15 @@ returns-in_err-sweep_all g c =
     round.ended.1 round.ended.2 c.from_residual-in_err-sweep_all.ensures.0
 
 -- a round struck some
+pub loop-preserved : goal.loop-preserved
+loop-preserved g c =
+    let x = c.args.level.now in
+    let m = g.L.Level.meaning x in
+    let P = g.L.Level.passing x in
+    let r = c.sweep_all.new.set in
+    let round = subst (λ b. RoundSwept m P c.loop.set r (Ok b)) c.if-branch.true c.in_ok-sweep_all.ensures in
+    (keeps_trans m P c.args.set.now c.loop.set r c.loop.invariant.0 round.keeps, round.ended.1)
+
 -- a round struck nothing
 pub returns : goal.returns
 returns g c =
