@@ -73,7 +73,6 @@ module _ (m : Meaning) (law : Lawful m) (v : List ℕ) where
         (implied (ltb a (view_count m v k)) (ltb b (view_count m v j) && t) (λ e. lt k a p.0 (law.proper.together _ a _ b (and_parts (ltb b (view_count m v j)) t e).1).0.1)
         ∙ implied (ltb b (view_count m v j)) t (λ e. lt j b p.1 (law.proper.together _ a _ b e).1.1))
 
-
   -- options of lines that are not joined go together if they exist
   pub shown_free : (f : ℕ → ℕ → Bool) (k a j b : ℕ) → f k j ≡ false → (k ≡ j → ⊥) → a < view_count m v k → (shown_by m v f).together k a j b ≡ ltb b (view_count m v j)
   shown_free f k a j b e ne l = rw (ne_eqb k j ne, lt-ltb a (view_count m v k) l, e) (and_true (ltb b (view_count m v j)))

@@ -1,5 +1,5 @@
 // The table source.
-ghost use Rattle.std.specs.Prelude.{◌≡◌, ◌+◌, slice_index};
+ghost use Rattle.std.specs.Prelude.{◌+◌, slice_index};
 ghost use Rattle.bits.specs.Bits.{on};
 ghost use Rattle.tables.specs.Sound.{all_records};
 ghost use Rattle.tables.specs.Faults.{table_fault};
