@@ -1,13 +1,15 @@
 -- The facts of a view, and of any source of its form.
-use Rattle.std.proofs.Common.{◌≡◌, ℕ, ◌<◌, ◌≤◌, max, Bool, true, false, not, ◌&&◌, ◌||◌, eqb, ltb, List, length, get_or, sym, ap, ◌∙◌, subst, arith}
+use Rattle.std.proofs.Common.{◌≡◌, ℕ, ◌<◌, ◌≤◌, max, Bool, true, false, not, ◌&&◌, ◌||◌, eqb, ltb, List, length, get_or, sym, ap, ◌∙◌, subst, ⊎_elim, arith}
 use mathlib.Core.Path.{fun_ext}
 use native.Mathlib.Nat.{le-max_left, le-max_right, max-le}
-use Rattle.std.proofs.lemmas.Bool.{and_parts, cond-true, cond-false, ne_eqb, eqb-false, lt-ltb, le-ltb, ltb-true, not-true}
+use Rattle.std.proofs.lemmas.Bool.{and_parts, cases_lt, cond-true, cond-false, ne_eqb, eqb-false, lt-ltb, le-ltb, ltb-true, not-true}
+use Rattle.std.proofs.lemmas.List.{get_or_past}
 use Rattle.bits.specs.Bits.{on}
+use Rattle.bits.proofs.Bits.{on_zero}
 use Rattle.model.specs.Meaning.{Meaning, Limits, Lawful}
 use Rattle.model.specs.Making.{two_of}
-use Rattle.model.specs.Views.{ruled, view_count, shown_by, view_joined, view_meaning, on_words}
-use Rattle.model.proofs.Bools.{and_swap, and_true, eqb_sym, guarded, implied}
+use Rattle.model.specs.Views.{ruled, view_count, shown_by, view_joined, view_meaning}
+use Rattle.model.proofs.Bools.{and_swap, and_true, eqb_sym, implied}
 use Rattle.model.proofs.Facts.{line_of, count_few}
 use Rattle.model.proofs.Pairs.{two_parts, two_true}
 
@@ -102,8 +104,11 @@ module _ (m : Meaning) (law : Lawful m) (v : List ℕ) where
   pub view_lawful : 0 < length v → length v ≤ 128 → Lawful (view_meaning m v)
   view_lawful = shown_lawful (view_joined m v) view_two view_same
 
-  -- a word for each line that tells the lines it is joined with
-  pub words_joined : (ws : List ℕ)
-      → ((k j : ℕ) → k < length v → on (get_or ws k 0) j ≡ (ltb j (length v) && m.joined (get_or v k 0) (get_or v j 0)))
-      → (k j : ℕ) → on_words (length v) ws k j ≡ view_joined m v k j
-  words_joined ws is k j = guarded (ltb k (length v)) (on (get_or ws k 0) j) (ltb j (length v) && m.joined (get_or v k 0) (get_or v j 0)) (λ e. is k j (ltb-true k (length v) e))
+  -- words that tell of each line the lines that it is joined with
+  module _ (ws : List ℕ) (many : length ws ≡ length v)
+      (is : (k j : ℕ) → k < length v → on (get_or ws k 0) j ≡ (ltb j (length v) && m.joined (get_or v k 0) (get_or v j 0))) where
+    pub words_joined : (k j : ℕ) → on (get_or ws k 0) j ≡ view_joined m v k j
+    words_joined k j = ⊎_elim
+        (λ lt. is k j lt ∙ sym (ap (λ x. x && (ltb j (length v) && m.joined (get_or v k 0) (get_or v j 0))) (lt-ltb k (length v) lt)))
+        (λ ge. ap (λ w. on w j) (get_or_past ws k 0 (omega arith)) ∙ on_zero j ∙ sym (ap (λ x. x && (ltb j (length v) && m.joined (get_or v k 0) (get_or v j 0))) (le-ltb k (length v) ge)))
+        (cases_lt k (length v))

@@ -1,6 +1,5 @@
 -- A view: some lines of a source, as a source.
 use Rattle.std.specs.Prelude.{◌≡◌, ℕ, ◌<◌, max, Bool, true, cond, not, ◌&&◌, ◌||◌, List, length, ◌==◌, nat_lt, slice_index}
-use Rattle.bits.specs.Bits.{on}
 use Rattle.model.specs.Meaning.{Meaning}
 
 -- A meaning by its counts, its joined lines and what its rules allow: options of two lines go together
@@ -27,10 +26,6 @@ view_joined m v k j = nat_lt k (length v) && (nat_lt j (length v) && m.joined (s
 
 abbrev pub view_meaning : Meaning → List ℕ → Meaning
 view_meaning m v = shown_by m v (view_joined m v)
-
--- bit j is set in word k, which is one of the first n
-abbrev pub on_words : ℕ → List ℕ → ℕ → ℕ → Bool
-on_words n ws k j = nat_lt k n && on (slice_index ws k) j
 
 -- v lists the numbers that pass the test, in rising order
 pub record Lists (test : ℕ → Bool) (v : List ℕ) : Type 0 where

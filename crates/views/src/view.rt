@@ -4,9 +4,11 @@ ghost use Rattle.std.specs.Prelude.{◌≡◌, ℕ, ◌<◌, ◌≤◌, ◌&&◌
 ghost use Rattle.bits.specs.Bits.{on};
 ghost use Rattle.bits.specs.Least.{Least};
 ghost use Rattle.model.proofs.Views.{view_lawful};
-ghost use Rattle.model.specs.Views.{on_words, view_joined, view_meaning};
+ghost use Rattle.model.specs.Views.{view_joined, view_meaning};
 
+use arrayvec::ArrayVec;
 use bits::{has, next_one, with};
+use rules::parts::item_or;
 use rules::source::RuleSource;
 
 // The lines that a view shows, in its order.
@@ -32,7 +34,7 @@ impl<'a> Shown<'a> {
     fn line(&self, place: usize) -> usize
         ensures { result ≡ slice_index self.now.lines.now place }
     {
-        self.lines.get(place).copied().unwrap_or(0)
+        item_or(self.lines, place, 0)
     }
 
     // The places whose lines are in the word.
@@ -49,12 +51,12 @@ impl<'a> Shown<'a> {
     }
 
     // For each place the places whose lines are joined with its line.
-    fn joins<S: RuleSource>(&self, source: &S) -> [u128; 128]
-        ensures { (k j : ℕ) → k < length self.now.lines.now → on (slice_index result k) j ≡ (nat_lt j (length self.now.lines.now) && (S.meaning source.now).joined (slice_index self.now.lines.now k) (slice_index self.now.lines.now j)) }
+    fn joins<S: RuleSource>(&self, source: &S) -> ArrayVec<u128, 128>
+        ensures { (k j : ℕ) → on (slice_index result.items k) j ≡ view_joined (S.meaning source.now) self.now.lines.now k j }
     {
-        let mut joins = [0; 128];
-        for (k, line) in self.lines.iter().enumerate() {
-            joins[k] = self.places(source.joined_lines(*line));
+        let mut joins = ArrayVec::new();
+        for line in self.lines {
+            joins.push(self.places(source.joined_lines(*line)));
         }
         joins
     }
@@ -67,8 +69,8 @@ pub struct View<'a, S: RuleSource> {
     shown: Shown<'a>,
     // for each place of the list the word of the places that it is joined with, so that the source is
     // asked once for each line and not in every question
-    joins: [u128; 128],
-    ghost told: { (k j : ℕ) → on_words (length shown.lines.now) joins k j ≡ view_joined (S.RuleSource.meaning source) shown.lines.now k j },
+    joins: ArrayVec<u128, 128>,
+    ghost told: { (k j : ℕ) → on (slice_index joins.items k) j ≡ view_joined (S.RuleSource.meaning source) shown.lines.now k j },
 }
 
 // The least set bit of the word, at or above from and below the limit.
@@ -83,11 +85,7 @@ impl<'a, S: RuleSource> View<'a, S> {
     fn joins_at(&self, place: usize) -> u128
         ensures { (j : ℕ) → on result j ≡ view_joined (S.meaning self.now.source) self.now.shown.lines.now place j }
     {
-        if place < self.shown.lines.len() {
-            self.joins[place]
-        } else {
-            0
-        }
+        item_or(self.joins.as_slice(), place, 0)
     }
 }
 
