@@ -21,12 +21,14 @@ fn in_order(lines: usize) -> Tickets
     array::from_fn(|i| (i < lines).then_some(i as u64))
 }
 
-// The lines that wait: the one with the least ticket is the first.
+// The lines that wait: the one with the least ticket is the first. Tickets fill an array of fixed size, as a
+// filter asks for no memory.
 #[derive(Drop)]
 struct Queue {
     tickets: Tickets,
     // the last ticket that was given
     last: u64,
+    // there is a place for each line, and no ticket is after the last
     ghost places: { length tickets ≡ 128 },
     ghost up_to: { UpTo tickets last },
 }
