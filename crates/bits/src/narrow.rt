@@ -1,4 +1,5 @@
 // Words of 64 bits.
+// Kept: the text of the other width once more, as no macro may write an `impl`.
 ghost use Rattle.std.proofs.Common.{lit≤};
 
 use crate::word::Word;
@@ -39,6 +40,7 @@ impl Word for u64 {
     }
 
     fn zeros_from(self, from: usize) -> usize {
+        // Kept: std has no `From<u32>` for `usize`.
         (self >> from).trailing_zeros() as usize
     }
 }

@@ -140,6 +140,7 @@ fn opened() -> [u64; LINES] {
 }
 
 // How many options stand.
+// Kept: two lines of std, once in each program; `sum` would leave the bound of the count open.
 fn standing(set: &[u64; LINES]) -> u32 {
     set.iter()
         .fold(0, |n, word| n.saturating_add(word.count_ones()))

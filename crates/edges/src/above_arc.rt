@@ -50,6 +50,7 @@ fn ring(
 }
 
 // How many options of a set are left.
+// Kept: two lines of std, once in each program; `sum` would leave the bound of the count open.
 fn standing(set: &[u64]) -> u32 {
     set.iter()
         .fold(0, |n, word| n.saturating_add(word.count_ones()))

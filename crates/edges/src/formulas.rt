@@ -16,6 +16,7 @@ fn check(lines: &[LineRecord], values: &[i32], rules: &[RuleRecord]) -> Result<(
 }
 
 // The number of a check's answer, and 0 where it passes.
+// Kept: the numbers are what is tested.
 fn number(r: Result<(), SourceFault>) -> u8 {
     r.err().map_or(0, |fault| fault.number())
 }
@@ -25,6 +26,7 @@ fn values(heap: Global, n: i32) -> Result<Vec<i32>, AllocError> {
     (0..n).collect(heap)
 }
 
+// Kept: the number of the kind is what is tested.
 fn rule(kind: u8, k: i32, m: i32) -> RuleRecord {
     RuleRecord {
         kind,

@@ -9,6 +9,7 @@ use tables::records::{Table, TableRecord};
 use views::view::View;
 
 // Two lines with the values -5 to 5, and one rule between them.
+// Kept: the number of the kind is what is tested.
 fn two_lines(rt: &HostRuntime, kind: u8, k: i32, m: i32) -> Result<FormulaSource, Fail> {
     let line = LineRecord {
         start: 0,

@@ -18,11 +18,12 @@ type Tickets = [Option<u64>; 128];
 fn in_order(lines: usize) -> Tickets
     ensures { (i : ℕ) → i < 128 → ticket result i ≡ then_some (nat_lt i lines) i }
 {
+    // Kept: std has no `From<usize>` for `u64`.
     array::from_fn(|i| (i < lines).then_some(i as u64))
 }
 
-// The lines that wait: the one with the least ticket is the first. Tickets fill an array of fixed size, as a
-// filter asks for no memory.
+// The lines that wait: the one with the least ticket is the first.
+// Kept: tickets in an array of fixed size, since a filter asks for no memory.
 #[derive(Drop)]
 struct Queue {
     tickets: Tickets,

@@ -1,5 +1,7 @@
 // Testing the options of a line in the set as it stands, and striking each failure. To strike an
 // option is to remove it from the set.
+// Kept: level and set as two parameters; of a struct that holds the lent set a contract says less plainly
+// what is left.
 ghost use Rattle.std.specs.Prelude.{◌≡◌, ℕ, ◌<◌, ◌&&◌, length, MatchBool, MatchResult, nat_le, slice_index};
 ghost use Rattle.bits.specs.Bits.{on};
 ghost use Rattle.filters.specs.Sweeps.{LineSwept, Tested, strike};

@@ -10,6 +10,7 @@ use levels::level::Level;
 use levels::words::word;
 
 // An option set with a word for each line that there can be.
+// Kept: an array and no vector, since a filter and a trial ask for no memory.
 pub type OptionSet = [u64; 128];
 
 // The first 128 words of a set.

@@ -29,6 +29,7 @@ pub struct Joint<A: RuleSource, B: RuleSource> {
     first: A,
     second: B,
     // whether the check passed; the source is the bare one where it did not
+    // Kept: an enum of the two cases would have to drop the sources in one, which asks more of callers.
     alike: bool,
     // so the two are one source where it did
     ghost equal: { alike ≡ true → EqualCounts (A.RuleSource.meaning first) (B.RuleSource.meaning second) },
@@ -75,6 +76,7 @@ impl<A: RuleSource, B: RuleSource> RuleSource for Joint<A, B> {
     }
 
     // The next option that goes by the first source, until one goes by the second too.
+    // Kept: a walk from answer to answer; `find` over all options would ask both sources for each of them.
     #[tactic(auto, using(model::proofs::Facts::support_few))]
     fn next_support(&self, i: usize, a: usize, j: usize, from: usize) -> Option<usize> {
         if !self.alike {

@@ -8,6 +8,7 @@ use crate::kind::Kind;
 
 impl Kind {
     // Whether k and m lie in the ranges of the kind; m is not read where the kind has none.
+    // Kept: two numbers and not a struct, as they come so in a record, with a number for the kind.
     pub fn takes(self, k: i32, m: i32) -> bool
         ensures { result ≡ in_range self k m }
     {

@@ -28,6 +28,7 @@ pub trait Level {
         ensures { result ≡ touching self.now i j };
 
     // Whether an option passes in a set, whose missing words are 0.
+    // Kept: a struct for a line with its option would only make callers write it out.
     fn passes(&self, set: &[u64], line: usize, option: usize) -> bool
         ensures { Decides result (passing self.now set.now line option) };
 

@@ -106,6 +106,7 @@ fn near_passes<S: RuleSource>(source: &S, set: &[u64], line: usize, option: usiz
     }
     let lines = looked(source, line);
     let mut words = held_words(set, &lines, line, option);
+    // Kept: `is_some_and` would write to the words inside its closure.
     match View::new(source, lines.as_slice()) {
         Some(view) => settles(&Arc { source: view }, words.as_mut_slice()),
         None => false,

@@ -33,6 +33,7 @@ pub enum SourceFault {
 
 impl SourceFault {
     // The returned number of the fault.
+    // Kept: refusals are told by number, so every number stands here and in the contract.
     pub fn number(self) -> u8
         ensures { result ≡ number self }
     {

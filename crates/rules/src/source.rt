@@ -30,6 +30,7 @@ pub trait RuleSource {
         ensures { result ≡ (meaning self.now).joined i j };
 
     // Whether option a of line i goes with option b of line j.
+    // Kept: a struct for a line with its option would make every question longer to ask.
     fn together(&self, i: usize, a: usize, j: usize, b: usize) -> bool
         ensures { result ≡ (meaning self.now).together i a j b };
 
@@ -38,6 +39,7 @@ pub trait RuleSource {
         ensures { Least ((meaning self.now).together i a j) from result };
 
     // The least line, at or above from, that is joined with line i.
+    // Kept: `find` proves by a written answer only, and an edit would be refused there and not here.
     fn next_joined(&self, i: usize, from: usize) -> Option<usize>
         ensures { Least ((meaning self.now).joined i) from result }
     {
@@ -51,6 +53,7 @@ pub trait RuleSource {
 
     // The least option of line j, at or above from, that goes with option a of line i and stands in the
     // word of line j.
+    // Kept: as above, `find` needs a written answer.
     fn next_standing(
         &self,
         i: usize,
@@ -70,6 +73,7 @@ pub trait RuleSource {
     }
 
     // The lines that are joined with line i, as a word: bit j stands for line j.
+    // Kept: a view finds its places so too; one function over a closure would need a `requires`.
     fn joined_lines(&self, i: usize) -> u128
         ensures { (j : ℕ) → on result j ≡ (meaning self.now).joined i j }
     {

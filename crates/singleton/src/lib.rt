@@ -40,6 +40,7 @@ fn tried<L: Level>(below: &L, set: &[u64], line: usize, option: usize) -> Option
         return None;
     }
     let mut held = hold(set, line, option);
+    // Kept: `then_some` would copy the set in each trial.
     match by_rounds(below, &mut held) {
         Outcome::Settled => Some(held),
         Outcome::NoPlan => None,

@@ -61,6 +61,7 @@ fn widest(counts: &[usize]) -> usize
 }
 
 // The options of line j that go with option a of line i where there are no rules, as a word.
+// Kept: `counts_ok` in three private contracts; a struct of checked counts would be longer than the clauses.
 fn free_word(counts: &[usize], i: usize, a: usize, j: usize) -> u64
     requires { counts_ok counts.now ≡ true }
     ensures { (b : ℕ) → on result b ≡ two_options counts.now i a j b }

@@ -9,6 +9,7 @@ pub(crate) struct Line {
     pub(crate) joins: u128,
 }
 
+// Kept: a ghost field and no model; with a model the facts of a source would be asked of every meaning.
 #[derive(Drop)]
 pub struct Supports {
     pub(crate) lines: Vec<Line>,

@@ -61,6 +61,7 @@ impl<'a> Parts for Table<'a> {
         Ok(())
     }
 
+    // Kept: the loop of a formula's words once more, over pairs of its own.
     fn compile(&self, heap: Global) -> Result<Supports, AllocError> {
         let mut all = Supports::free(heap, self.counts)?;
         for r in self.records {

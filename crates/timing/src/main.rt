@@ -44,6 +44,7 @@ fn next(left: &mut slice::Iter<'_, u64>) -> u64 {
 // The wall of the numbers.
 fn parts_of(heap: Global, numbers: &[u64]) -> Result<Wall, AllocError> {
     let mut left = numbers.iter();
+    // Kept: both types have 64 bits, so `try_from` would add a refusal that never comes.
     let lines = next(&mut left) as usize;
     let options = next(&mut left) as usize;
     let rules = next(&mut left);
@@ -72,6 +73,7 @@ fn opened<S: RuleSource>(source: &S) -> OptionSet {
 }
 
 // How many options stand.
+// Kept: two lines of std, once in each program; `sum` would leave the bound of the count open.
 fn standing(set: &OptionSet) -> u32 {
     set.iter()
         .fold(0, |n, word| n.saturating_add(word.count_ones()))
