@@ -1,3 +1,4 @@
+pub mod Collecting
 pub mod Lines
 pub mod Largest
 pub mod Indices

@@ -64,7 +64,7 @@ fn widest(counts: &[usize]) -> usize
 // Kept: `counts_ok` in three private contracts; a struct of checked counts would be longer than the clauses.
 fn free_word(counts: &[usize], i: usize, a: usize, j: usize) -> u64
     requires { counts_ok counts.now ≡ true }
-    ensures { (b : ℕ) → on result b ≡ two_options counts.now i a j b }
+    ensures { on result ≡ two_options counts.now i a j }
 {
     if names_two(counts.len(), i, j) && a < counts[i] {
         ones(counts[j])
@@ -83,13 +83,9 @@ fn free_words(heap: Global, counts: &[usize], width: usize) -> Result<Vec<u64>, 
 {
     let lines = counts.len();
     let places = lines * width * lines;
-    // Kept: `collect` would tell the words as a list of values, and the contract tells each by its bits.
-    let mut words = Vec::with_capacity(heap, places)?;
-    for p in 0..places {
-        let row = p / lines;
-        words.push(free_word(counts, row / width, row % width, p % lines))?;
-    }
-    Ok(words)
+    (0..places)
+        .map(|p| free_word(counts, p / lines / width, p / lines % width, p % lines))
+        .collect(heap)
 }
 
 // Lines of these option counts, none joined with another.

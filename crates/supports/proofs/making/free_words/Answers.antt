@@ -1,17 +1,13 @@
-use Rattle.std.proofs.Common.{◌≡◌, get_or, vec_items, sym, refl, ap, ◌∙◌, ⊎_elim, arith, rules}
-use Rattle.std.proofs.lemmas.Bool.{cases_lt}
+use Rattle.std.proofs.Common.{◌*◌, ◌/◌, ◌%◌, length, rules}
 use Rattle.bits.specs.Bits.{on}
+use Rattle.model.specs.Making.{two_options}
+use Rattle.supports.proofs.Collecting.{collected_at}
 use Rattle.supports.proofs.making.free_words.Goals as goal
 
--- the words before are as they were, and the one at p is made
-pub loop-p-preserved : goal.loop-p-preserved
-loop-p-preserved c =
-    let old = c.loop-p.invariant in
-    let ws = c.push.new.self in
-    let places = c.in_ok-push.ensures.by_index in (
-      (search rules),
-      λ q b h. ⊎_elim
-          (λ lt. ap (λ x. on x b) (places.0 q 0 (omega (arith, old.0))) ∙ old.1 q b lt)
-          (λ ge. let e : q ≡ c.loop-p.p = omega arith in
-          rw e (ap (λ x. on x b) (ap (λ k. get_or (vec_items ws) k 0) (sym old.0) ∙ places.1 0 refl) ∙ c.free_word.ensures b)) (cases_lt q c.loop-p.p),
-    )
+pub returns-clause-words : goal.returns-clause-words
+returns-clause-words c =
+    let cs = c.args.counts.now in
+    let n = length cs in
+    let width = c.args.width in
+    collected_at c.collect.result on (λ p. two_options cs (p / n / width) (p / n % width) (p % n)) (n * width * n) 0
+    c.collect.ensures.ran c.map.ensures.source c.map.ensures.closure (λ x y q k. search rules)
