@@ -2,7 +2,7 @@
 use Rattle.std.proofs.Common.{◌≡◌, ℕ, Bool, ◌&&◌, ◌||◌, List, [], ◌∷◌, length, get_or, fold, sym, ap, ◌∙◌}
 use Rattle.model.specs.Meaning.{Meaning}
 use Rattle.model.specs.Making.{no_rules, same_lines, allowed, with_rule, joins, allows, adding, records_meaning}
-use Rattle.model.proofs.Bools.{or_assoc, or_false, and_assoc, and_true}
+use Rattle.std.proofs.Math.Bool.{and-true, and_assoc, or-false, or_assoc}
 use Rattle.model.proofs.Parts.{same_meaning}
 
 module _ {R : Type 0} (first second : R → ℕ) (f : R → ℕ → ℕ → Bool) where
@@ -23,7 +23,7 @@ module _ {R : Type 0} (first second : R → ℕ) (f : R → ℕ → ℕ → Bool
 
   folded_grown : (m : Meaning) (rs : List R) → fold (adding first second f) m rs ≡ grown m rs
   unfolding grown
-  folded_grown m [] = same_meaning m.lines m.count _ _ _ _ (λ i j. sym (or_false (m.joined i j))) (λ i a j b. sym (and_true (m.together i a j b)))
+  folded_grown m [] = same_meaning m.lines m.count _ _ _ _ (λ i j. sym (or-false (m.joined i j))) (λ i a j b. sym (and-true (m.together i a j b)))
   folded_grown m (r ∷ rs) = folded_grown (adding first second f m r) rs ∙ grown_step m r rs
 
   pub all_added : (cs : List ℕ) (rs : List R) → fold (adding first second f) (no_rules cs) rs ≡ records_meaning first second f cs rs

@@ -4,7 +4,7 @@ use Rattle.std.proofs.lemmas.List.{get_or_past}
 use Rattle.std.proofs.lemmas.Bool.{and_parts, or_parts, or_cases, or_left, or_right, eqb-true, cases_Bool, both_ways}
 use Rattle.model.specs.Meaning.{Meaning, Lawful}
 use Rattle.model.specs.Making.{counts_ok, no_rules, with_join, with_ban, same_lines, same_options}
-use Rattle.model.proofs.Bools.{and_comm, or_comm}
+use Rattle.std.proofs.Math.Bool.{and_comm, or_comm}
 use Rattle.model.proofs.Pairs.{count_at, pair_of, pair_true, two_options_sym}
 
 pub no_rules_lawful : (cs : List ℕ) → 0 < length cs → length cs ≤ 128 → counts_ok cs ≡ true → Lawful (no_rules cs)

@@ -2,7 +2,8 @@
 use Rattle.std.proofs.Common.{◌≡◌, ℕ, zero, suc, ◌<◌, ◌≤◌, true, not, ◌&&◌, eqb, ltb, leb, List, [], ◌∷◌, length, get_or, ap, ◌∙◌, arith}
 use Rattle.std.proofs.lemmas.Bool.{and_parts, ltb-true, leb-true, lt-ltb, eqb-false, ne_eqb, not-true}
 use Rattle.model.specs.Making.{two_of, two_lines, two_options, counts_ok}
-use Rattle.model.proofs.Bools.{and_swap, and_comm, eqb_sym}
+use Rattle.std.proofs.Math.Bool.{and_comm}
+use Rattle.model.proofs.Bools.{and_swap, eqb_sym}
 
 pub count_at : (cs : List ℕ) → counts_ok cs ≡ true → (i : ℕ) → i < length cs → (0 < get_or cs i 0) × (get_or cs i 0 ≤ 64)
 count_at [] ok i h = absurd (omega (arith, h))

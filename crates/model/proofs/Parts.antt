@@ -5,7 +5,8 @@ use Rattle.std.proofs.lemmas.Bool.{and_parts, eqb-true, lt-ltb, eq-eqb}
 use Rattle.std.proofs.lemmas.Bool.Decides.{nat_tests}
 use Rattle.model.specs.Meaning.{Meaning, Lawful}
 use Rattle.model.specs.Making.{with_join, with_ban, with_rule, with_part}
-use Rattle.model.proofs.Bools.{and_true, or_true, guarded}
+use Rattle.std.proofs.Math.Bool.{and-true, or-true}
+use Rattle.model.proofs.Bools.{guarded}
 
 -- meanings that agree on everything
 pub same_meaning : (n : ℕ) (count : ℕ → ℕ) (x y : ℕ → ℕ → Bool) (f g : ℕ → ℕ → ℕ → ℕ → Bool) → ((k l : ℕ) → x k l ≡ y k l) → ((k c l d : ℕ) → f k c l d ≡ g k c l d)
@@ -80,7 +81,7 @@ half_none false F = refl
 pub part_none : (i j : ℕ) (f done : ℕ → ℕ → Bool) (m : Meaning) → ((x y : ℕ) → done x y ≡ false) → with_part i j f done m ≡ m
 unfolding with_part
 part_none i j f done m e = same_together m _ _ (λ k c l d.
-    rw (e c d, e d c, half_none (eqb k i && eqb l j) (f c d), half_none (eqb k j && eqb l i) (f d c)) (and_true (m.together k c l d)))
+    rw (e c d, e d c, half_none (eqb k i && eqb l j) (f c d), half_none (eqb k j && eqb l i) (f d c)) (and-true (m.together k c l d)))
 
 half_join : (pq D e F : Bool) → ((not pq || (not D || F)) && (not pq || (not e || F))) ≡ (not pq || (not (D || e) || F))
 half_join false D e F = refl
@@ -185,4 +186,4 @@ rows_all i j f m start end p e d = d ∙ ap (with_part i j f (rows (m.count i) (
 pub join_facts : (i j : ℕ) (m n : Meaning) → m ≡ with_join i j n → (m.lines ≡ n.lines) × ((k : ℕ) → m.count k ≡ n.count k) × (m.joined i j ≡ true)
 unfolding with_join
 join_facts i j m n e =
-    (ap (λ x. x.lines) e, (λ k. ap (λ x. x.count k) e), ap (λ x. x.joined i j) e ∙ rw (eq-eqb i i refl, eq-eqb j j refl) (or_true (n.joined i j)))
+    (ap (λ x. x.lines) e, (λ k. ap (λ x. x.count k) e), ap (λ x. x.joined i j) e ∙ rw (eq-eqb i i refl, eq-eqb j j refl) (or-true (n.joined i j)))

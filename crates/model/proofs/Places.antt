@@ -7,7 +7,8 @@ use Rattle.bits.specs.Bits.{on, cleared, marked}
 use Rattle.bits.proofs.Bits.{on_cleared, on_marked, on_zero}
 use Rattle.model.specs.Making.{two_lines, two_options, no_rules, with_join, with_ban, same_lines, same_options}
 use Rattle.model.specs.Words.{place, clear_at, mark_at, Sized, Clean, Unruled, words_meaning}
-use Rattle.model.proofs.Bools.{and_assoc, and_true, and_false, or_assoc, or_false, guarded}
+use Rattle.std.proofs.Math.Bool.{and-false, and-true, and_assoc, or-false, or_assoc}
+use Rattle.model.proofs.Bools.{guarded}
 use Rattle.model.proofs.Laws.{at_lines}
 use Rattle.model.proofs.Pairs.{Pair, pair_of, lines_true}
 use Rattle.model.proofs.Parts.{same_together, same_meaning}
@@ -59,7 +60,7 @@ on_clear_at ws p b q t h = ⊎_elim same other (cases_eq q p)
 
     other : (q ≡ p → ⊥) → on (get_or (clear_at ws p b) q 0) t ≡ (on (get_or ws q 0) t && not (eqb q p && eqb t b))
     other ne =
-        ap (λ w. on w t) (get_or-set_other ws p q (cleared (get_or ws p 0) b) 0 ne) ∙ sym (and_true (on (get_or ws q 0) t))
+        ap (λ w. on w t) (get_or-set_other ws p q (cleared (get_or ws p 0) b) 0 ne) ∙ sym (and-true (on (get_or ws q 0) t))
         ∙ ap (λ x. on (get_or ws q 0) t && not (x && eqb t b)) (sym (ne_eqb q p ne))
 
 arrange : (p q c d : Bool) → ((p && (c && q)) && d) ≡ ((p && q) && (c && d))
@@ -131,7 +132,7 @@ on_mark_at ws p b q t h = ⊎_elim same other (cases_eq q p)
 
     other : (q ≡ p → ⊥) → on (get_or (mark_at ws p b) q 0) t ≡ (on (get_or ws q 0) t || (eqb q p && eqb t b))
     other ne =
-        ap (λ w. on w t) (get_or-set_other ws p q (marked (get_or ws p 0) b) 0 ne) ∙ sym (or_false (on (get_or ws q 0) t))
+        ap (λ w. on w t) (get_or-set_other ws p q (marked (get_or ws p 0) b) 0 ne) ∙ sym (or-false (on (get_or ws q 0) t))
         ∙ ap (λ x. on (get_or ws q 0) t || (x && eqb t b)) (sym (ne_eqb q p ne))
 
 -- a pair that is named exists, so the test of existence can go outside
@@ -183,11 +184,11 @@ module _ (cs : List ℕ) (width : ℕ) (joins words : List ℕ) (s : Sized cs wi
   pub words_none : words_meaning cs width joins words ≡ no_rules cs
   unfolding words_meaning no_rules
   words_none = same_meaning (length cs) (λ k. get_or cs k 0) _ _ _ _
-      (λ k l. ap (λ x. two_lines cs k l && x) (unjoined k l) ∙ and_false (two_lines cs k l))
+      (λ k l. ap (λ x. two_lines cs k l && x) (unjoined k l) ∙ and-false (two_lines cs k l))
       (λ k c l d. guarded (two_options cs k c l d) _ true (λ g.
       let q = pair_of cs k c l d g in
       let c_lt : c < width = omega (arith, s.counts_le k, q.a_lt) in
-      here k c l d q.i_lt c_lt q.j_lt ∙ g) ∙ and_true (two_options cs k c l d))
+      here k c l d q.i_lt c_lt q.j_lt ∙ g) ∙ and-true (two_options cs k c l d))
 
   pub clean_none : Clean cs width joins words
   clean_none = record {

@@ -9,7 +9,8 @@ use Rattle.bits.proofs.Bits.{on_zero}
 use Rattle.model.specs.Meaning.{Meaning, Limits, Lawful}
 use Rattle.model.specs.Making.{two_of}
 use Rattle.model.specs.Views.{ruled, view_count, shown_by, view_joined, view_meaning}
-use Rattle.model.proofs.Bools.{and_swap, and_true, eqb_sym, implied}
+use Rattle.std.proofs.Math.Bool.{and-true}
+use Rattle.model.proofs.Bools.{and_swap, eqb_sym, implied}
 use Rattle.model.proofs.Facts.{line_of, count_few}
 use Rattle.model.proofs.Pairs.{two_parts, two_true}
 
@@ -77,7 +78,7 @@ module _ (m : Meaning) (law : Lawful m) (v : List ℕ) where
 
   -- options of lines that are not joined go together if they exist
   pub shown_free : (f : ℕ → ℕ → Bool) (k a j b : ℕ) → f k j ≡ false → (k ≡ j → ⊥) → a < view_count m v k → (shown_by m v f).together k a j b ≡ ltb b (view_count m v j)
-  shown_free f k a j b e ne l = rw (ne_eqb k j ne, lt-ltb a (view_count m v k) l, e) (and_true (ltb b (view_count m v j)))
+  shown_free f k a j b e ne l = rw (ne_eqb k j ne, lt-ltb a (view_count m v k) l, e) (and-true (ltb b (view_count m v j)))
 
   -- what two joined lines of the view are
   pub view_parts : (k j : ℕ) → view_joined m v k j ≡ true → (k < length v) × (j < length v) × (m.joined (get_or v k 0) (get_or v j 0) ≡ true)

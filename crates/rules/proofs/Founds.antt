@@ -4,7 +4,7 @@ use Rattle.std.proofs.lemmas.Bool.{cases_eq, eq-eqb, lt-ltb, ne_eqb}
 use Rattle.std.proofs.lemmas.Bool.Decides.{nat_tests}
 use Rattle.bits.specs.Bits.{on, marked}
 use Rattle.bits.proofs.Bits.{on_marked}
-use Rattle.model.proofs.Bools.{or_false, or_true}
+use Rattle.std.proofs.Math.Bool.{or-false, or-true}
 
 -- of the numbers below n those are found that pass
 abbrev pub Found : (ℕ → Bool) → ℕ → ℕ → Type 0
@@ -19,10 +19,10 @@ module _ (f : ℕ → Bool) (w n : ℕ) (found : Found f w n) where
   pub found_more : f n ≡ true → Found f (marked w n) (n + 1)
   found_more on_n k = on_marked w n k ∙ ⊎_elim
       (λ (e : k ≡ n). subst (λ x. (on w x || eqb x n) ≡ (f x && ltb x (n + 1))) (sym e) (here (on w n)))
-      (λ ne. ap (λ t. on w k || t) (ne_eqb k n ne) ∙ or_false (on w k) ∙ found k ∙ other k ne) (cases_eq k n)
+      (λ ne. ap (λ t. on w k || t) (ne_eqb k n ne) ∙ or-false (on w k) ∙ found k ∙ other k ne) (cases_eq k n)
     where
       here : (b : Bool) → (b || eqb n n) ≡ (f n && ltb n (n + 1))
-      here b = ap (λ t. b || t) (eq-eqb n n refl) ∙ or_true b ∙ sym (ap (λ t. t && ltb n (n + 1)) on_n ∙ lt-ltb n (n + 1) (omega arith))
+      here b = ap (λ t. b || t) (eq-eqb n n refl) ∙ or-true b ∙ sym (ap (λ t. t && ltb n (n + 1)) on_n ∙ lt-ltb n (n + 1) (omega arith))
 
   -- n does not pass
   pub found_same : f n ≡ false → Found f w (n + 1)

@@ -2,7 +2,7 @@ use Rattle.std.proofs.Common.{eqb, ltb, ap, ◌∙◌}
 use Rattle.std.proofs.lemmas.Bool.{cond-true, lt-ltb}
 use Rattle.bits.specs.Bits.{on, marked}
 use Rattle.bits.proofs.Bits.{on_marked}
-use Rattle.model.proofs.Bools.{or_comm}
+use Rattle.std.proofs.Math.Bool.{or_comm}
 use Rattle.neighbourhood.proofs.with_line.Goals as goal
 
 pub returns : goal.returns
