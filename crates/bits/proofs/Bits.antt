@@ -4,7 +4,7 @@ use Rattle.std.proofs.Common.{◌≡◌, ℕ, zero, suc, ◌+◌, ◌-◌, ◌*�
 use native.Mathlib.Nat.{mul-mod_left, mod-one, div-eq_of_lt}
 use lib.Arith.{bin_ind}
 use lib.Bits.{bit_and, bit_or, bit_xor, and_shr, or_shr, xor_shr, and_mod, or_mod, xor_mod, and_zero_l, and_zero_r, and_self, and_step, xor_zero_r, xor_add_and, and_mask, and_block}
-use lib.Count.{count_trailing_zeros, under}
+use lib.Count.{count_trailing_zeros, trailing_of_zero, under}
 use lib.Pow.{pow-lt, shl-shr, split}
 use Rattle.std.proofs.lemmas.Nat.{mod_below, shr-shr, shr_high}
 use Rattle.std.proofs.lemmas.Bool.{both_ways, cases_order, cases_eq, cases_lt, eq-eqb, ne_eqb, eqb-true, lt-ltb, le-ltb, false≢true, true≢false}
@@ -166,6 +166,13 @@ module _ (k w from b : ℕ) (fits : w < 2 ^ k) (at : b ≡ from + count_trailing
   pub least_there : Least (on w) from (then_some (ltb b k) b)
   least_there = ⊎_elim (λ lt. subst (λ t. Least (on w) from (then_some t b)) (sym (lt-ltb b k lt)) (least_found lt))
       (λ ge. subst (λ t. Least (on w) from (then_some t b)) (sym (le-ltb b k ge)) (least_none ge)) (cases_lt b k)
+
+-- past the end of a word of k bits none is set, so all k are passed
+pub past_end : (k w f : ℕ) → w < 2 ^ k → k ≤ f → k ≡ count_trailing_zeros k (w / 2 ^ f)
+past_end k w f fits le =
+    let p : 2 ^ k ≤ 2 ^ f = pow_mono le in
+    let q : w < 2 ^ f = omega arith in
+    sym (ap (count_trailing_zeros k) (div-eq_of_lt q) ∙ trailing_of_zero k)
 
 -- no bit that is not set comes before bit b where it is set, and there alone
 none_before : (k n : ℕ) → 0 < k → eqb (count_trailing_zeros k n) 0 ≡ on n 0

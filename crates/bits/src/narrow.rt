@@ -1,5 +1,5 @@
 // Words of 64 bits.
-// Kept: the text of the other width once more, as no macro may write an `impl`.
+// Kept: the text of the other width once more; the gate takes no `impl` that a macro writes.
 ghost use Rattle.std.proofs.Common.{lit≤};
 
 use crate::word::Word;
@@ -28,7 +28,7 @@ impl Word for u64 {
     }
 
     fn bit(b: usize) -> u64 {
-        1 << b
+        if b < 64 { 1 << b } else { 0 }
     }
 
     fn mask(n: usize) -> u64 {
@@ -36,11 +36,15 @@ impl Word for u64 {
     }
 
     fn less_lowest(self) -> u64 {
-        self & (self - 1)
+        self & self.wrapping_sub(1)
     }
 
     fn zeros_from(self, from: usize) -> usize {
         // Kept: std has no `From<u32>` for `usize`.
-        (self >> from).trailing_zeros() as usize
+        if from < 64 {
+            (self >> from).trailing_zeros() as usize
+        } else {
+            self.width()
+        }
     }
 }

@@ -1,5 +1,5 @@
 // What the functions on bits need of a type of words.
-ghost use Rattle.std.specs.Prelude.{◌≡◌, ℕ, ◌-◌, ◌/◌, ◌^◌, ◌<◌, ◌≤◌, min, bit_and, bit_or, bit_xor};
+ghost use Rattle.std.specs.Prelude.{◌≡◌, ℕ, ◌-◌, ◌/◌, ◌^◌, ◌<◌, ◌≤◌, if◌then◌else◌, min, bit_and, bit_or, bit_xor, nat_lt};
 ghost use Rattle.std.specs.Int.Count.{count_trailing_zeros};
 
 use std::ops::{BitAnd, BitOr, BitXor};
@@ -20,23 +20,20 @@ pub trait Word: Copy
         ensures count { result ≡ bits }
         ensures fits { number self < 2 ^ bits };
 
-    // The word of bit b alone.
+    // The word of bit b alone, or of none where there is no bit b.
     fn bit(b: usize) -> Self
-        requires { b < bits }
-        ensures { number result ≡ 2 ^ b };
+        ensures { number result ≡ (if nat_lt b bits then 2 ^ b else 0) };
 
     // The word of the bits below n, or of all where it has fewer.
     fn mask(n: usize) -> Self
         ensures { number result ≡ 2 ^ min n bits - 1 };
 
-    // The word less its lowest set bit.
+    // The word less its lowest set bit, if it has one.
     fn less_lowest(self) -> Self
-        requires { 0 < number self }
         ensures { number result ≡ bit_and (number self) (number self - 1) };
 
-    // How many bits from `from` on are not set, until one is.
+    // How many bits from `from` on are not set until one is, and the width where none is.
     fn zeros_from(self, from: usize) -> usize
-        requires { from < bits }
         ensures { result ≡ count_trailing_zeros bits (number self / 2 ^ from) };
 
     // There are no longer words.
