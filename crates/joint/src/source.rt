@@ -1,9 +1,9 @@
 // Two sources as one: lines are joined if either joins them, and options go together if both say so.
-ghost use Rattle.std.specs.Prelude.{◌≡◌, true};
+ghost use Rattle.std.specs.Prelude.{◌≡◌};
 ghost use Rattle.joint.specs.Faults.{FoundAlike, joint_fault};
-ghost use Rattle.joint.specs.Nearer.{nearer};
+ghost use Rattle.joint.specs.Nearer.{below, nearer};
 ghost use Rattle.model.proofs.Joining.{joint_lawful};
-ghost use Rattle.model.specs.Joints.{EqualCounts, both, joint};
+ghost use Rattle.model.specs.Joints.{both, joint};
 ghost use Rattle.rules.specs.Faults.{Makes};
 
 use crate::check::check_joint;
@@ -24,6 +24,17 @@ fn nearer(x: Option<usize>, y: Option<usize>) -> Option<usize>
     x.zip(y).map(|(j, k)| j.min(k)).or(x).or(y)
 }
 
+// The number, if it is there and below the limit.
+fn below(x: Option<usize>, limit: usize) -> Option<usize>
+    ensures { result ≡ below x limit }
+{
+    x.filter(|&j| j < limit)
+}
+
+// Nothing but the flag ties the two sources, so the answers are lawful for any two: the second is read
+// only of lines of the first that it joins. Where the counts are equal this leaves nothing out.
+// Kept: a ghost field that says so would keep a generic struct from having a field of this type over a
+// reference or another joint source.
 #[derive(Drop)]
 pub struct Joint<A: RuleSource, B: RuleSource> {
     first: A,
@@ -31,13 +42,10 @@ pub struct Joint<A: RuleSource, B: RuleSource> {
     // whether the check passed; the source is the bare one where it did not
     // Kept: an enum of the two cases would have to drop the sources in one, which asks more of callers.
     alike: bool,
-    // so the two are one source where it did
-    ghost equal: { alike ≡ true → EqualCounts (A.RuleSource.meaning first) (B.RuleSource.meaning second) },
 }
 
 impl<A: RuleSource, B: RuleSource> Joint<A, B> {
     // The two sources as one, or the bare source where their option counts differ.
-    #[tactic(auto, using(crate::proofs::Makings::alike_equal, crate::proofs::Makings::joint_makes))]
     pub fn new(first: A, second: B) -> Joint<A, B>
         ensures { Makes (joint_fault (A.RuleSource.meaning first) (B.RuleSource.meaning second)) (both (A.RuleSource.meaning first) (B.RuleSource.meaning second)) (joint result.alike (A.RuleSource.meaning result.first) (B.RuleSource.meaning result.second)) }
     {
@@ -53,7 +61,7 @@ impl<A: RuleSource, B: RuleSource> Joint<A, B> {
 impl<A: RuleSource, B: RuleSource> RuleSource for Joint<A, B> {
     ghost meaning = { λ x. joint x.alike (A.RuleSource.meaning x.first) (B.RuleSource.meaning x.second) };
 
-    ghost lawful = { λ x. joint_lawful x.alike (A.RuleSource.meaning x.first) (B.RuleSource.meaning x.second) (A.RuleSource.lawful x.first) (B.RuleSource.lawful x.second) x.equal };
+    ghost lawful = { λ x. joint_lawful x.alike (A.RuleSource.meaning x.first) (B.RuleSource.meaning x.second) (A.RuleSource.lawful x.first) (B.RuleSource.lawful x.second) };
 
     fn lines(&self) -> usize {
         if self.alike { self.first.lines() } else { 1 }
@@ -68,23 +76,24 @@ impl<A: RuleSource, B: RuleSource> RuleSource for Joint<A, B> {
     }
 
     fn joined(&self, i: usize, j: usize) -> bool {
-        self.alike && (self.first.joined(i, j) || self.second.joined(i, j))
+        let lines = self.first.lines();
+        self.alike
+            && (self.first.joined(i, j) || self.second.joined(i, j) && i < lines && j < lines)
     }
 
     fn together(&self, i: usize, a: usize, j: usize, b: usize) -> bool {
-        self.alike && self.first.together(i, a, j, b) && self.second.together(i, a, j, b)
+        self.alike
+            && self.first.together(i, a, j, b)
+            && (!self.second.joined(i, j) || self.second.together(i, a, j, b))
     }
 
-    // The next option that goes by the first source, until one goes by the second too.
-    // Kept: a walk from answer to answer; `find` over all options would ask both sources for each of them.
+    // The next option that goes by the first source, until one goes by both.
+    // Kept: a walk that takes each answer of the first source apart, the form that the project asks for.
     #[tactic(auto, using(model::proofs::Facts::support_few))]
     fn next_support(&self, i: usize, a: usize, j: usize, from: usize) -> Option<usize> {
-        if !self.alike {
-            return None;
-        }
         let mut at = from;
         while let Some(b) = self.first.next_support(i, a, j, at) {
-            if self.second.together(i, a, j, b) {
+            if self.together(i, a, j, b) {
                 return Some(b);
             }
             at = b + 1;
@@ -94,20 +103,25 @@ impl<A: RuleSource, B: RuleSource> RuleSource for Joint<A, B> {
 
     // The nearer of the lines that the two sources name.
     fn next_joined(&self, i: usize, from: usize) -> Option<usize> {
-        if !self.alike {
+        let lines = self.first.lines();
+        if !self.alike || i >= lines {
             return None;
         }
         nearer(
             self.first.next_joined(i, from),
-            self.second.next_joined(i, from),
+            below(self.second.next_joined(i, from), lines),
         )
     }
 
     // The lines that either source names.
     fn joined_lines(&self, i: usize) -> u128 {
-        if !self.alike {
+        let lines = self.first.lines();
+        if !self.alike || i >= lines {
             return 0;
         }
-        either(self.first.joined_lines(i), self.second.joined_lines(i))
+        either(
+            self.first.joined_lines(i),
+            bits::below(self.second.joined_lines(i), lines),
+        )
     }
 }
