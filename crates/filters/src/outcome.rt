@@ -1,4 +1,5 @@
 // How a filter ends.
+// Kept: no `Result`, since no plan is an answer and no error.
 #[derive(Clone, Copy, PartialEq, Eq, Debug)]
 pub enum Outcome {
     // every line has an option left, and all that is left passes

@@ -41,6 +41,7 @@ pub fn largest_good_subset<L: Level>(level: &L, set: &[u64]) -> OptionSet
 }
 
 // What a filter left of a set, and how it ended.
+// Kept: what is left is there in either case, so the outcome says nothing of whether it is.
 #[derive(Clone, Copy)]
 pub struct Run {
     pub outcome: Outcome,

@@ -7,6 +7,7 @@ use kinds::kind::Kind;
 use rules::parts::{ends_inside, names_two};
 
 // Whether the values rise and lie from -1,000,000 to 1,000,000.
+// Kept: one pass; `is_sorted_by` and `all` over a range would be two, and no shorter.
 fn rises(values: &[i32]) -> bool
     ensures { result ≡ rising (negsuc 1000000) values.now }
 {
@@ -69,6 +70,7 @@ impl<'a> Formula<'a> {
     }
 
     // The first rule that names a missing line, or one line twice.
+    // Kept: a table searches its records so too; a bound for what names two lines would be longer than both.
     pub(crate) fn first_bad_names(&self) -> Option<usize>
         ensures { result ≡ position (bad_names (length self.now.lines.now)) self.now.rules.now }
     {

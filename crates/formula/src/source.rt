@@ -112,6 +112,7 @@ impl<'a> Parts for Formula<'a> {
         Ok(())
     }
 
+    // Kept: the loop of a table's words once more, over pairs of its own.
     fn compile(&self, heap: Global) -> Result<Supports, AllocError> {
         let counts = self.counts(heap)?;
         let mut words = Supports::free(heap, &counts)?;

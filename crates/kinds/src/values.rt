@@ -12,6 +12,7 @@ impl Kind {
     pub fn takes(self, k: i32, m: i32) -> bool
         ensures { result ≡ in_range self k m }
     {
+        // Kept: a match with guards, the form that the project asks for.
         match self {
             Kind::Apart | Kind::Exact if (0..=2_000_000).contains(&k) => true,
             Kind::After if is_wide(k) => true,

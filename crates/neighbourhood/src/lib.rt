@@ -106,11 +106,10 @@ fn near_passes<S: RuleSource>(source: &S, set: &[u64], line: usize, option: usiz
     }
     let lines = looked(source, line);
     let mut words = held_words(set, &lines, line, option);
-    // Kept: `is_some_and` would write to the words inside its closure.
-    match View::new(source, lines.as_slice()) {
-        Some(view) => settles(&Arc { source: view }, words.as_mut_slice()),
-        None => false,
-    }
+    let Some(view) = View::new(source, lines.as_slice()) else {
+        return false;
+    };
+    settles(&Arc { source: view }, words.as_mut_slice())
 }
 
 impl<S: RuleSource> Level for Neighbourhood<S> {
@@ -133,6 +132,7 @@ impl<S: RuleSource> Level for Neighbourhood<S> {
 
     ghost real = { λ x i j e. let w = (S.RuleSource.lawful x.source).proper.joined i j e in (w.0, w.1) };
 
+    // Kept: these three are arc's once more, one line each.
     fn lines(&self) -> usize {
         self.source.lines()
     }

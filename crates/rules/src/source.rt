@@ -39,7 +39,6 @@ pub trait RuleSource {
         ensures { Least ((meaning self.now).together i a j) from result };
 
     // The least line, at or above from, that is joined with line i.
-    // Kept: `find` proves by a written answer only, and an edit would be refused there and not here.
     fn next_joined(&self, i: usize, from: usize) -> Option<usize>
         ensures { Least ((meaning self.now).joined i) from result }
     {
@@ -53,7 +52,6 @@ pub trait RuleSource {
 
     // The least option of line j, at or above from, that goes with option a of line i and stands in the
     // word of line j.
-    // Kept: as above, `find` needs a written answer.
     fn next_standing(
         &self,
         i: usize,

@@ -38,6 +38,7 @@ impl<'a> Shown<'a> {
     }
 
     // The places whose lines are in the word.
+    // Kept: a source finds its joined lines so too; one function over a closure would need a `requires`.
     fn places(&self, word: u128) -> u128
         ensures { (p : ℕ) → on result p ≡ (nat_lt p (length self.now.lines.now) && on word (slice_index self.now.lines.now p)) }
     {
@@ -114,6 +115,7 @@ impl<'a, S: RuleSource> RuleSource for View<'a, S> {
     }
 
     fn count(&self, line: usize) -> usize {
+        // Kept: a match, since the answer of a source inside a closure of `map_or` is not found by the proof.
         match self.shown.lines.get(line) {
             Some(shown) => self.source.count(*shown).max(1),
             None => 0,

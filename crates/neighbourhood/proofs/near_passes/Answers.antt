@@ -9,8 +9,8 @@ use Rattle.model.proofs.NearRuns.{near_run}
 use Rattle.neighbourhood.proofs.near_passes.Goals as goal
 
 -- the view shows the looked-at lines of the source
-pub returns-in-Some : goal.returns-in-Some
-returns-in-Some g c =
+pub returns : goal.returns
+returns g c =
     let x = c.args.source.now in
     let m = g.S.RuleSource.meaning x in
     let law = g.S.RuleSource.lawful x in
