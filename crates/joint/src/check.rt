@@ -22,7 +22,7 @@ pub fn check_joint<A: RuleSource, B: RuleSource>(first: &A, second: &B) -> Resul
     ensures { FirstFault (joint_fault (A.RuleSource.meaning first.now) (B.RuleSource.meaning second.now)) result }
 {
     let lines = first.lines().max(second.lines());
-    // Kept: std turns no `Some` into an `Err`.
+    // Kept: `map_or(Ok(()), ..)` says the same with the cases turned round, which reads less plainly.
     match first_unequal(first, second, lines) {
         Some(line) => Err(SourceFault::Counts(line)),
         None => Ok(()),

@@ -28,6 +28,7 @@ impl<'a> Table<'a> {
     }
 
     // The first record that names a missing line, or one line twice.
+    // Kept: a formula searches its rules so too; a bound for what names two lines would be longer than both.
     pub(crate) fn first_bad_names(&self) -> Option<usize>
         ensures { result ≡ position (bad_names (length self.now.counts.now)) self.now.records.now }
     {

@@ -102,7 +102,7 @@ fn filter(rt: &HostRuntime, source: &TableSource, runs: Option<u32>) -> anyhow::
         let (_, time) = run(rt, source, &mut again)?;
         least = least.min(time);
     }
-    // Kept: the one place that prints the bare outcome.
+    // Kept: two words in one place; a `Display` would be a public promise of the library for them alone.
     let how = match outcome {
         Outcome::Settled => "settled",
         Outcome::NoPlan => "no plan",
@@ -122,7 +122,7 @@ fn filter(rt: &HostRuntime, source: &TableSource, runs: Option<u32>) -> anyhow::
 // The file's name and how often to run, from the arguments.
 fn arguments(rt: &HostRuntime) -> anyhow::Result<(String, Option<u32>)> {
     let mut words = env::args(rt)?.skip(1);
-    // Kept: the default asks for memory, which `unwrap_or_else` can't.
+    // Kept: the default asks for memory; a `map_or_else` with `Ok` and `?` around it reads less plainly.
     let file = match words.next() {
         Some(name) => name,
         None => String::from_str(rt.alloc(), "wall.txt")?,

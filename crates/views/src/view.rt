@@ -70,6 +70,7 @@ pub struct View<'a, S: RuleSource> {
     shown: Shown<'a>,
     // for each place of the list the word of the places that it is joined with, so that the source is
     // asked once for each line and not in every question
+    // Kept: beside the list, which is lent, so no vector can hold both.
     joins: ArrayVec<u128, 128>,
     ghost told: { (k j : ℕ) → on (slice_index joins.items k) j ≡ view_joined (S.RuleSource.meaning source) shown.lines.now k j },
 }
