@@ -1,8 +1,8 @@
 -- What the parts of a formula source mean.
-use Rattle.std.specs.Prelude.{ℕ, ◌+◌, Bool, false, List, fold, map, get_or, ℤ, pos, Some, None, Option, slice_index_or}
+use Rattle.std.specs.Prelude.{ℕ, ◌+◌, Bool, false, List, map, get_or, ℤ, pos, Some, None, Option, slice_index_or}
 use Rattle.model.specs.Meaning.{Meaning}
 use Rattle.model.specs.Making.{records_meaning}
-use Rattle.supports.specs.Adding.{adding_if, unruled}
+use Rattle.supports.specs.Adding.{meant}
 use Rattle.kinds.specs.declared.kind.Kind.{Kind}
 use Rattle.formula.specs.declared.records.LineRecord.{LineRecord}
 use Rattle.formula.specs.declared.records.RuleRecord.{RuleRecord}
@@ -33,7 +33,7 @@ rule_allows ls vs r a b = allowed_if (kind_of r.kind) r.k r.m (value_of ls vs r.
 abbrev pub formula_meaning : List LineRecord → List ℤ → List RuleRecord → Meaning
 formula_meaning ls vs rs = records_meaning (λ (r : RuleRecord). r.first) (λ (r : RuleRecord). r.second) (rule_allows ls vs) (counts_of ls) rs
 
--- what the words mean to which one rule after the other is added
+-- what the words of any parts mean: the rules that name two lines, or the bare source where the counts do not
+-- keep the limits
 abbrev pub formula_words : List LineRecord → List ℤ → List RuleRecord → Meaning
-formula_words ls vs rs =
-    fold (adding_if (λ (r : RuleRecord). r.first) (λ (r : RuleRecord). r.second) (rule_allows ls vs)) (unruled (counts_of ls)) rs
+formula_words ls vs rs = meant (λ (r : RuleRecord). r.first) (λ (r : RuleRecord). r.second) (rule_allows ls vs) (counts_of ls) rs

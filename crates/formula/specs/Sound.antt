@@ -7,7 +7,7 @@ use Rattle.rules.specs.declared.fault.SourceFault.{SourceFault}
 use Rattle.rules.specs.declared.fault.SourceFault.TheVariants.{Lines, Span, Names}
 use Rattle.rules.specs.Faults.{flawed_at}
 use Rattle.supports.specs.Adding.{fit}
-use Rattle.supports.proofs.Folding.{all_added_if}
+use Rattle.supports.proofs.Folding.{meant_all}
 use Rattle.formula.specs.declared.records.LineRecord.{LineRecord}
 use Rattle.formula.specs.declared.records.RuleRecord.{RuleRecord}
 use Rattle.formula.specs.Faults.{bad_span, formula_fault}
@@ -31,5 +31,5 @@ module _ (ls : List LineRecord) (vs : List ℤ) (rs : List RuleRecord) (sound : 
       (and_from (leb (length (counts_of ls)) 128) (counts_ok (counts_of ls)) (ap (λ n. leb n 128) same_length ∙ p.1) (counts_right (length vs) ls (λ p. sound (Span p))))
 
   pub all_rules : formula_words ls vs rs ≡ formula_meaning ls vs rs
-  all_rules = all_added_if (λ (r : RuleRecord). r.first) (λ (r : RuleRecord). r.second) (rule_allows ls vs) (counts_of ls) rs fits
+  all_rules = meant_all (λ (r : RuleRecord). r.first) (λ (r : RuleRecord). r.second) (rule_allows ls vs) (counts_of ls) rs fits
       (λ p. ap (λ n. flawed_at (λ (r : RuleRecord). not (two_of n r.first r.second)) rs p) same_length ∙ sound (Names p))

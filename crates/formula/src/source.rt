@@ -1,9 +1,9 @@
 // The formula source.
-ghost use Rattle.std.specs.Prelude.{◌≡◌, ◌+◌, get_or, pos, IfOk, slice_index_or};
+ghost use Rattle.std.specs.Prelude.{◌≡◌, ◌+◌, get_or, pos, IfOk, fold, slice_index_or};
 ghost use Rattle.formula.specs.Faults.{formula_fault};
 ghost use Rattle.formula.specs.Formulas.{allowed_if, counts_of, formula_meaning, formula_words, no_line, rule_allows};
 ghost use Rattle.formula.specs.Sound.{all_rules};
-ghost use Rattle.supports.specs.Adding.{adding_if};
+ghost use Rattle.supports.specs.Adding.{adding_if, unruled};
 ghost use Rattle.supports.specs.Held.{supports_meaning};
 
 use crate::records::{Formula, LineRecord, RuleRecord};
@@ -72,6 +72,19 @@ impl<'a> Formula<'a> {
         };
         words.add(rule.first, rule.second, &pair);
     }
+
+    // The words without rules, and one rule after the other added.
+    // Kept: the loop of a table's words once more, over pairs of its own.
+    fn added(&self, heap: Global) -> Result<Supports, AllocError>
+        ensures { IfOk result (λ s. supports_meaning s ≡ fold (adding_if (λ r. r.first) (λ r. r.second) (rule_allows self.now.lines.now self.now.values.now)) (unruled (counts_of self.now.lines.now)) self.now.rules.now) }
+    {
+        let counts = self.counts(heap)?;
+        let mut words = Supports::free(heap, &counts)?;
+        for r in self.rules {
+            self.add(&mut words, *r);
+        }
+        Ok(words)
+    }
 }
 
 // A source of lines of values and rules between them, compiled.
@@ -112,13 +125,7 @@ impl<'a> Parts for Formula<'a> {
         Ok(())
     }
 
-    // Kept: the loop of a table's words once more, over pairs of its own.
     fn compile(&self, heap: Global) -> Result<Supports, AllocError> {
-        let counts = self.counts(heap)?;
-        let mut words = Supports::free(heap, &counts)?;
-        for r in self.rules {
-            self.add(&mut words, *r);
-        }
-        Ok(words)
+        self.added(heap)
     }
 }

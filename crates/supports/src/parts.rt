@@ -28,7 +28,7 @@ pub trait Parts {
     fn check(&self) -> Result<(), SourceFault>
         ensures { FirstFault (fault self.now) result };
 
-    // The words of the parts, one record after the other.
+    // The words of the parts, whether they have a fault or not.
     fn compile(&self, heap: Global) -> Result<Supports, AllocError>
         ensures { IfOk result (λ s. supports_meaning s ≡ compiled self.now) };
 

@@ -6,7 +6,7 @@ use Rattle.rules.specs.declared.fault.SourceFault.{SourceFault}
 use Rattle.rules.specs.declared.fault.SourceFault.TheVariants.{Lines, Span, Names}
 use Rattle.rules.specs.Faults.{flawed_at}
 use Rattle.supports.specs.Adding.{fit}
-use Rattle.supports.proofs.Folding.{all_added_if}
+use Rattle.supports.proofs.Folding.{meant_all}
 use Rattle.tables.specs.declared.records.TableRecord.{TableRecord}
 use Rattle.tables.specs.Faults.{bad_count, table_fault}
 use Rattle.tables.specs.Tables.{record_allows, table_meaning, table_words}
@@ -22,4 +22,4 @@ module _ (cs : List ℕ) (rs : List TableRecord) (ws : List ℕ) (sound : (f : S
       and_from (ltb 0 (length cs)) (leb (length cs) 128 && counts_ok cs) p.0 (and_from (leb (length cs) 128) (counts_ok cs) p.1 (counts_right cs (λ p. sound (Span p))))
 
   pub all_records : table_words cs rs ws ≡ table_meaning cs rs ws
-  all_records = all_added_if (λ (r : TableRecord). r.first) (λ (r : TableRecord). r.second) (record_allows ws) cs rs fits (λ p. sound (Names p))
+  all_records = meant_all (λ (r : TableRecord). r.first) (λ (r : TableRecord). r.second) (record_allows ws) cs rs fits (λ p. sound (Names p))

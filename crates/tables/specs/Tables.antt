@@ -1,9 +1,9 @@
 -- What the parts of a table source mean.
-use Rattle.std.specs.Prelude.{ℕ, ◌+◌, Bool, List, fold, slice_index}
+use Rattle.std.specs.Prelude.{ℕ, ◌+◌, Bool, List, slice_index}
 use Rattle.bits.specs.Bits.{on}
 use Rattle.model.specs.Meaning.{Meaning}
 use Rattle.model.specs.Making.{records_meaning}
-use Rattle.supports.specs.Adding.{adding_if, unruled}
+use Rattle.supports.specs.Adding.{meant}
 use Rattle.tables.specs.declared.records.TableRecord.{TableRecord}
 
 -- word start + a has bit b set if option a of the first line goes with option b of the second
@@ -15,6 +15,7 @@ record_allows ws r a b = on (slice_index ws (r.start + a)) b
 abbrev pub table_meaning : List ℕ → List TableRecord → List ℕ → Meaning
 table_meaning cs rs ws = records_meaning (λ (r : TableRecord). r.first) (λ (r : TableRecord). r.second) (record_allows ws) cs rs
 
--- what the words mean to which one record after the other is added
+-- what the words of any parts mean: the records that name two lines, or the bare source where the counts do not
+-- keep the limits
 abbrev pub table_words : List ℕ → List TableRecord → List ℕ → Meaning
-table_words cs rs ws = fold (adding_if (λ (r : TableRecord). r.first) (λ (r : TableRecord). r.second) (record_allows ws)) (unruled cs) rs
+table_words cs rs ws = meant (λ (r : TableRecord). r.first) (λ (r : TableRecord). r.second) (record_allows ws) cs rs

@@ -1,9 +1,11 @@
 // The table source.
-ghost use Rattle.std.specs.Prelude.{◌+◌, slice_index};
+ghost use Rattle.std.specs.Prelude.{◌≡◌, ◌+◌, IfOk, fold, slice_index};
 ghost use Rattle.bits.specs.Bits.{on};
 ghost use Rattle.tables.specs.Sound.{all_records};
 ghost use Rattle.tables.specs.Faults.{table_fault};
-ghost use Rattle.tables.specs.Tables.{table_meaning, table_words};
+ghost use Rattle.tables.specs.Tables.{record_allows, table_meaning, table_words};
+ghost use Rattle.supports.specs.Adding.{adding_if, unruled};
+ghost use Rattle.supports.specs.Held.{supports_meaning};
 
 use crate::records::Table;
 use bits::has;
@@ -26,6 +28,24 @@ impl<'a> PairRule for RecordPair<'a> {
 
     fn allows(&self, a: usize, b: usize) -> bool {
         has(item_from(self.words, self.start, a, 0), b)
+    }
+}
+
+impl<'a> Table<'a> {
+    // The words without rules, and one record after the other added.
+    // Kept: the loop of a formula's words once more, over pairs of its own.
+    fn added(&self, heap: Global) -> Result<Supports, AllocError>
+        ensures { IfOk result (λ s. supports_meaning s ≡ fold (adding_if (λ r. r.first) (λ r. r.second) (record_allows self.now.words.now)) (unruled self.now.counts.now) self.now.records.now) }
+    {
+        let mut all = Supports::free(heap, self.counts)?;
+        for r in self.records {
+            let pair = RecordPair {
+                words: self.words,
+                start: r.start,
+            };
+            all.add(r.first, r.second, &pair);
+        }
+        Ok(all)
     }
 }
 
@@ -61,16 +81,7 @@ impl<'a> Parts for Table<'a> {
         Ok(())
     }
 
-    // Kept: the loop of a formula's words once more, over pairs of its own.
     fn compile(&self, heap: Global) -> Result<Supports, AllocError> {
-        let mut all = Supports::free(heap, self.counts)?;
-        for r in self.records {
-            let pair = RecordPair {
-                words: self.words,
-                start: r.start,
-            };
-            all.add(r.first, r.second, &pair);
-        }
-        Ok(all)
+        self.added(heap)
     }
 }
