@@ -9,6 +9,8 @@ mod filtering;
 #[cfg(test)]
 mod formulas;
 #[cfg(test)]
+mod own_source;
+#[cfg(test)]
 mod questions;
 #[cfg(test)]
 mod table_parts;

@@ -67,6 +67,30 @@ fn either_side(rt: HostRuntime) -> Result<(), Fail> {
     Ok(())
 }
 
+// Kinds 2 and 3, by their numbers.
+#[test]
+fn exact_and_after(rt: HostRuntime) -> Result<(), Fail> {
+    let exact = two_lines(&rt, 2, 3, 0)?;
+    for (x, y, expected) in [
+        (0usize, 3usize, true),
+        (3, 0, true),
+        (0, 4, false),
+        (2, 2, false),
+    ] {
+        assert_eq!(rt; exact.together(0, x, 1, y), expected);
+    }
+    let after = two_lines(&rt, 3, 3, 0)?;
+    for (x, y, expected) in [
+        (0usize, 3usize, true),
+        (0, 4, true),
+        (3, 0, false),
+        (0, 2, false),
+    ] {
+        assert_eq!(rt; after.together(0, x, 1, y), expected);
+    }
+    Ok(())
+}
+
 // What is missing, and one line twice, gets 0, no or none.
 #[test]
 fn missing(rt: HostRuntime) -> Result<(), Fail> {

@@ -75,7 +75,7 @@ largest_as m P s u r same big = record {
 }
 
 -- sets with the same words have the same options
-same_words : (m : Meaning) → m.lines ≤ 128 → (s t : List ℕ) → ((k : ℕ) → k < 128 → get_or s k 0 ≡ get_or t k 0) → Same m s t
+pub same_words : (m : Meaning) → m.lines ≤ 128 → (s t : List ℕ) → ((k : ℕ) → k < 128 → get_or s k 0 ≡ get_or t k 0) → Same m s t
 same_words m few s t e = record {
   there = record { all = λ i a h. (h.0, h.1, ap (λ w. on w a) (sym (e i (omega arith))) ∙ h.2) };
   back = record { all = λ i a h. (h.0, h.1, ap (λ w. on w a) (e i (omega arith)) ∙ h.2) };

@@ -51,16 +51,17 @@ impl Queue {
     fn first(&self) -> Option<usize>
         ensures { MatchOption result (NoneWaits self.now.tickets) (First self.now.tickets) }
     {
-        let mut first: Option<(usize, u64)> = None;
+        let mut first = None;
+        let mut least = None;
         for (i, ticket) in self.tickets.iter().enumerate() {
             if let Some(t) = *ticket {
-                if first.is_none_or(|(_, least)| t < least) {
-                    first = Some((i, t));
+                if least.is_none_or(|u| t < u) {
+                    first = Some(i);
+                    least = *ticket;
                 }
             }
         }
-        let (line, _) = first?;
-        Some(line)
+        first
     }
 
     // Takes the first line that waits out of the queue.

@@ -63,6 +63,8 @@ impl<A: RuleSource, B: RuleSource> RuleSource for Joint<A, B> {
 
     ghost lawful = { λ x. joint_lawful x.alike (A.RuleSource.meaning x.first) (B.RuleSource.meaning x.second) (A.RuleSource.lawful x.first) (B.RuleSource.lawful x.second) };
 
+    const LINES_AT_HAND: bool = A::LINES_AT_HAND && B::LINES_AT_HAND;
+
     fn lines(&self) -> usize {
         if self.alike { self.first.lines() } else { 1 }
     }
@@ -97,6 +99,26 @@ impl<A: RuleSource, B: RuleSource> RuleSource for Joint<A, B> {
                 return Some(b);
             }
             at = b + 1;
+        }
+        None
+    }
+
+    // The next option that stands and goes by the first source, until one goes by both.
+    #[tactic(auto, using(model::proofs::Facts::support_few))]
+    fn next_standing(
+        &self,
+        i: usize,
+        a: usize,
+        j: usize,
+        from: usize,
+        standing: u64,
+    ) -> Option<usize> {
+        let mut at = from;
+        while let Some(c) = self.first.next_standing(i, a, j, at, standing) {
+            if self.together(i, a, j, c) {
+                return Some(c);
+            }
+            at = c + 1;
         }
         None
     }

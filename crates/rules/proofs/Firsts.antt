@@ -2,6 +2,7 @@
 use Rattle.std.proofs.Common.{◌≡◌, ℕ, ◌+◌, ◌<◌, Bool, true, false, cond, eqb, ◌⊎◌, List, Some, None, Ok, Err, refl, ap, ◌∙◌, inl, inr, ⊎_elim, zero-le, arith}
 use Rattle.std.specs.List.{position}
 use Rattle.std.proofs.lemmas.Bool.{cases_lt}
+use Rattle.bits.specs.Least.{Least}
 use Rattle.rules.specs.declared.fault.SourceFault.{SourceFault}
 use Rattle.rules.specs.declared.fault.SourceFault.TheVariants.{Lines, Span, Values, Records, Names, Kind, Range, Words, Counts, Memory}
 use Rattle.rules.specs.Faults.{number, concerned, flawed_at, FirstFault}
@@ -65,6 +66,16 @@ module _ (there : SourceFault → Bool) where
   pub clear_all : Clear there 10 → there Memory ≡ false → FirstFault there (Ok tt)
   clear_all clear memory f = ⊎_elim (λ lt. clear.none f lt) (λ (e : f ≡ Memory). ap there e ∙ memory) (numbered f).1
 
+  -- the first line or record p that has the fault of the number n
+  pub first_at : (n p : ℕ) → number (fault_of n p) ≡ n → concerned (fault_of n p) ≡ p → Clear there n → Least (λ q. there (fault_of n q)) 0 (Some p) → FirstFault there (Err (fault_of n p))
+  first_at n p en ep clear least = (
+    least.1,
+    λ g before. ⊎_elim
+        (λ (lt : number g < number (fault_of n p)). clear.none g (omega (arith, lt, en)))
+        (λ (w : (number g ≡ number (fault_of n p)) × (concerned g < concerned (fault_of n p))).
+        at_number n g (w.0 ∙ en) ∙ least.2 (concerned g) zero-le (omega (arith, w.1, ep))) before,
+  )
+
   -- a fault that no line or record is concerned by
   pub first_of : (n : ℕ) → concerned (fault_of n 0) ≡ 0 → number (fault_of n 0) ≡ n → Clear there n → there (fault_of n 0) ≡ true → FirstFault there (Err (fault_of n 0))
   first_of n ep en clear e = (
@@ -76,15 +87,10 @@ module _ (there : SourceFault → Bool) where
 
   module _ {X : Type 0} (flawed : X → Bool) (xs : List X) (n : ℕ) (at : (p : ℕ) → there (fault_of n p) ≡ flawed_at flawed xs p) where
     -- the fault of the number n is a flaw, and p is the first place that has it
-    pub first_at : (p : ℕ) → number (fault_of n p) ≡ n → concerned (fault_of n p) ≡ p → Clear there n → Some p ≡ position flawed xs → FirstFault there (Err (fault_of n p))
-    first_at p en ep clear found =
-        let least = first_flaw flawed xs (Some p) found in (
-          at p ∙ least.1,
-          λ g before. ⊎_elim
-              (λ (lt : number g < number (fault_of n p)). clear.none g (omega (arith, lt, en)))
-              (λ (w : (number g ≡ number (fault_of n p)) × (concerned g < concerned (fault_of n p))).
-              at_number n g (w.0 ∙ en) ∙ at (concerned g) ∙ least.2 (concerned g) zero-le (omega (arith, w.1, ep))) before,
-        )
+    pub first_flawed : (p : ℕ) → number (fault_of n p) ≡ n → concerned (fault_of n p) ≡ p → Clear there n → Some p ≡ position flawed xs → FirstFault there (Err (fault_of n p))
+    first_flawed p en ep clear found =
+        let least = first_flaw flawed xs (Some p) found in
+        first_at n p en ep clear (zero-le, at p ∙ least.1, λ q from lt. at q ∙ least.2 q from lt)
 
     -- no place has it
     pub clear_flaw : Clear there n → None ≡ position flawed xs → Clear there (n + 1)

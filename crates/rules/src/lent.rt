@@ -7,6 +7,8 @@ impl<'a, S: RuleSource> RuleSource for &'a S {
 
     ghost lawful = { λ x. S.RuleSource.lawful x.now };
 
+    const LINES_AT_HAND: bool = S::LINES_AT_HAND;
+
     fn lines(&self) -> usize {
         (*self).lines()
     }

@@ -5,7 +5,7 @@ ghost use Rattle.bits.specs.Least.{Least};
 ghost use Rattle.model.specs.Meaning.{Lawful, Meaning};
 ghost use Rattle.rules.specs.Standing.{standing_with};
 
-use bits::{has, with};
+use bits::{next_one, with};
 
 pub trait RuleSource {
     // Its lines, their option counts, which lines are joined and which options go together. All that is
@@ -16,6 +16,11 @@ pub trait RuleSource {
     // The facts that every source owes: its numbers keep the limits, joined and going together are the
     // same from either side, and options of lines that are not joined all go together.
     ghost lawful: { (x : Self) → Lawful (meaning x) };
+
+    // Whether the joined lines of a line are at hand as a word, so that to ask for all of them costs no more
+    // than to ask for the next one. A walk over them then begins with the word; else it asks for one after
+    // the other, and stops at the line that decides.
+    const LINES_AT_HAND: bool = false;
 
     // The number of lines.
     fn lines(&self) -> usize
@@ -62,10 +67,13 @@ pub trait RuleSource {
     ) -> Option<usize>
         ensures { Least (standing_with (meaning self.now) i a j standing) from result }
     {
-        for b in from..self.count(j) {
-            if has(standing, b) && self.together(i, a, j, b) {
+        let mut at = from;
+        while let Some(b) = self.next_support(i, a, j, at) {
+            let next = next_one(standing, b)?;
+            if next == b {
                 return Some(b);
             }
+            at = next;
         }
         None
     }

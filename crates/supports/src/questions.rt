@@ -61,6 +61,8 @@ impl RuleSource for Supports {
 
     ghost lawful = { λ s. (held s).lawful };
 
+    const LINES_AT_HAND: bool = true;
+
     fn lines(&self) -> usize {
         self.lines.len()
     }

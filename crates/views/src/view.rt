@@ -111,6 +111,8 @@ impl<'a, S: RuleSource> RuleSource for View<'a, S> {
 
     ghost lawful = { λ x. view_lawful (S.RuleSource.meaning x.source) (S.RuleSource.lawful x.source) x.shown.lines.now x.shown.some x.shown.few };
 
+    const LINES_AT_HAND: bool = true;
+
     fn lines(&self) -> usize {
         self.shown.lines.len()
     }

@@ -2,7 +2,7 @@ use Rattle.std.proofs.Common.{◌<◌, subst, sym, refl}
 use Rattle.bits.proofs.Bits.{cleared_falls}
 use Rattle.bits.proofs.Pops.{rest_pop}
 use Rattle.model.specs.Passing.{Supported}
-use Rattle.levels.proofs.arc.all_supported.Goals as goal
+use Rattle.levels.proofs.at_hand.all_of_word.Goals as goal
 
 pub loop-j-smaller : goal.loop-j-smaller
 loop-j-smaller g c =

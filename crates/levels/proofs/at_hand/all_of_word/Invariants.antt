@@ -1,7 +1,6 @@
-use Rattle.std.proofs.Common.{ℕ}
 use Rattle.bits.proofs.Pops.{Rest}
 use Rattle.model.specs.Passing.{Supported}
-use Rattle.levels.proofs.arc.all_supported.Given as goal
+use Rattle.levels.proofs.at_hand.all_of_word.Given as goal
 
 -- every joined line that was taken out has a support
 abbrev pub invariant-loop-j : goal.invariant-loop-j
