@@ -1,5 +1,5 @@
 -- Tickets of waiting lines.
-use Rattle.std.proofs.Common.{◌≡◌, ℕ, ◌+◌, ◌^◌, ◌<◌, ◌≤◌, Bool, true, false, not, ◌&&◌, List, Some, None, Option, MatchOption, is_some, length, set, count_by, sym, refl, ap, ◌∙◌, subst, inl, inr, ◌⊎◌, ⊎_elim, arith}
+use Rattle.std.proofs.Common.{◌≡◌, ℕ, ◌+◌, ◌-◌, ◌^◌, ◌<◌, ◌≤◌, Bool, true, false, not, ◌&&◌, List, Some, None, Option, MatchOption, is_some, length, set, count_by, sym, refl, ap, ◌∙◌, subst, inl, inr, ◌⊎◌, ⊎_elim, arith}
 use Rattle.std.proofs.lemmas.List.{get_or_past, get_or-set_same, get_or-set_other}
 use Rattle.std.proofs.lemmas.Bool.{and_from, and_parts, both_ways, cases_eq, cases_lt, false≢true}
 use Rattle.std.proofs.lemmas.Option.{none-some, same_Some}
@@ -19,16 +19,16 @@ pub ticket_within : (ts : List (Option ℕ)) (i : ℕ) → Waits ts i → i < le
 ticket_within ts i wait =
     ⊎_elim (λ l. l) (λ past. absurd (none-some wait.0 (sym (get_or_past ts i None past) ∙ wait.1))) (cases_lt i (length ts))
 
--- of the first n lines, `first` has the least ticket, which is `least`, or none waits
-abbrev pub Earliest : List (Option ℕ) → ℕ → Option ℕ → Option ℕ → Type 0
+-- of the first n lines, `first` has the least ticket, which is `least`, or none waits and `least` is the largest number
+abbrev pub Earliest : List (Option ℕ) → ℕ → Option ℕ → ℕ → Type 0
 Earliest ts n first least = MatchOption first
-    ((least ≡ None) × ((k : ℕ) → k < n → ticket ts k ≡ None))
-    (λ k. (k < n) × (t : ℕ) × (least ≡ Some t) × (ticket ts k ≡ Some t) × ((j u : ℕ) → j < n → ticket ts j ≡ Some u → t ≤ u))
+    ((least ≡ 2 ^ 64 - 1) × ((k : ℕ) → k < n → ticket ts k ≡ None))
+    (λ k. (k < n) × (ticket ts k ≡ Some least) × ((j u : ℕ) → j < n → ticket ts j ≡ Some u → least ≤ u))
 
 -- no line past the tickets waits
-pub earliest : (ts : List (Option ℕ)) (n : ℕ) (first least : Option ℕ) → length ts ≤ n → Earliest ts n first least → MatchOption first (NoneWaits ts) (First ts)
+pub earliest : (ts : List (Option ℕ)) (n : ℕ) (first : Option ℕ) (least : ℕ) → length ts ≤ n → Earliest ts n first least → MatchOption first (NoneWaits ts) (First ts)
 earliest ts n None least few e = λ i. ⊎_elim (e.1 i) (λ past. get_or_past ts i None (omega (arith, few, past))) (cases_lt i n)
-earliest ts n (Some k) least few e = (e.1, e.3, λ j u w. e.4 j u (omega (arith, few, ticket_within ts j (u, w))) w)
+earliest ts n (Some k) least few e = (least, e.1, λ j u w. e.2 j u (omega (arith, few, ticket_within ts j (u, w))) w)
 
 -- how many lines wait
 abbrev pub waiting : List (Option ℕ) → ℕ

@@ -52,12 +52,12 @@ impl Queue {
         ensures { MatchOption result (NoneWaits self.now.tickets) (First self.now.tickets) }
     {
         let mut first = None;
-        let mut least = None;
+        let mut least = u64::MAX;
         for (i, ticket) in self.tickets.iter().enumerate() {
             if let Some(t) = *ticket {
-                if least.is_none_or(|u| t < u) {
+                if t <= least {
                     first = Some(i);
-                    least = *ticket;
+                    least = t;
                 }
             }
         }

@@ -115,7 +115,7 @@ impl<A: RuleSource, B: RuleSource> RuleSource for Joint<A, B> {
     ) -> Option<usize> {
         let mut at = from;
         while let Some(c) = self.first.next_standing(i, a, j, at, standing) {
-            if self.together(i, a, j, c) {
+            if self.alike && (!self.second.joined(i, j) || self.second.together(i, a, j, c)) {
                 return Some(c);
             }
             at = c + 1;
