@@ -9,7 +9,7 @@ use std::test::Fail;
 use supports::parts::Parts;
 
 // So many lines with the values 0 to 2, each with a rule of the kind to the next.
-pub(crate) fn chain(rt: &HostRuntime, n: usize, kind: Kind, k: i32) -> Result<FormulaSource, Fail> {
+fn chain(rt: &HostRuntime, n: usize, kind: Kind, k: i32) -> Result<FormulaSource, Fail> {
     let rules: Vec<RuleRecord> = (0..n)
         .zip(1..n)
         .map(|(first, second)| RuleRecord {

@@ -1,12 +1,13 @@
 // A source of a user's own: it answers the five questions that are asked for and leaves the others to the trait.
-use crate::filtering::chain;
 use filters::outcome::Outcome;
 use filters::queue::by_queue;
 use filters::rounds::by_rounds;
-use kinds::kind::Kind;
+use formula::records::{Formula, LineRecord, RuleRecord};
+use formula::source::FormulaSource;
 use levels::arc::Arc;
 use rules::source::RuleSource;
 use std::test::Fail;
+use supports::parts::Parts;
 
 #[derive(Drop)]
 struct Own<S: RuleSource> {
@@ -39,9 +40,36 @@ impl<S: RuleSource> RuleSource for Own<S> {
     }
 }
 
+// Lines with the values 0 to 2, which rise by these rules.
+fn rising(
+    rt: &HostRuntime,
+    lines: &[LineRecord],
+    rules: &[RuleRecord],
+) -> Result<FormulaSource, Fail> {
+    let parts = Formula {
+        lines,
+        values: &[0, 1, 2],
+        rules,
+    };
+    Ok(parts.source(rt.alloc())?)
+}
+
+const LINE: LineRecord = LineRecord { start: 0, count: 3 };
+
+// A value of the first line is less than one of the second.
+fn below(first: usize, second: usize) -> RuleRecord {
+    RuleRecord {
+        kind: 3,
+        first,
+        second,
+        k: 1,
+        m: 0,
+    }
+}
+
 #[test]
 fn questions_left_to_the_trait(rt: HostRuntime) -> Result<(), Fail> {
-    let source = chain(&rt, 3, Kind::After, 1)?;
+    let source = rising(&rt, &[LINE; 3], &[below(0, 1), below(1, 2)])?;
     let own = Own { inner: &source };
     assert_eq!(rt; own.next_joined(0, 0), Some(1));
     assert_eq!(rt; own.next_joined(0, 2), None);
@@ -57,7 +85,7 @@ fn questions_left_to_the_trait(rt: HostRuntime) -> Result<(), Fail> {
 // Arc asks for one joined line after the other.
 #[test]
 fn arc_over_it(rt: HostRuntime) -> Result<(), Fail> {
-    let source = chain(&rt, 3, Kind::After, 1)?;
+    let source = rising(&rt, &[LINE; 3], &[below(0, 1), below(1, 2)])?;
     let own = Own { inner: &source };
     let mut set = [7, 7 + 32, 7, 9];
     assert_eq!(rt;
@@ -65,7 +93,7 @@ fn arc_over_it(rt: HostRuntime) -> Result<(), Fail> {
         Outcome::Settled
     );
     assert_eq!(rt; set, [1, 2 + 32, 4, 9]);
-    let four = chain(&rt, 4, Kind::After, 1)?;
+    let four = rising(&rt, &[LINE; 4], &[below(0, 1), below(1, 2), below(2, 3)])?;
     let mut none = [7, 7, 7, 7 + 32];
     assert_eq!(rt;
         by_queue(

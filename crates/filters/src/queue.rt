@@ -39,6 +39,7 @@ impl Queue {
     fn of_all<L: Level>(level: &L) -> Self
         ensures wait { (i : ℕ) → i < (L.meaning level.now).lines → ticket result.tickets i ≡ Some i }
         ensures others { (i : ℕ) → (L.meaning level.now).lines ≤ i → ticket result.tickets i ≡ None }
+        ensures last { result.last ≡ 127 }
     {
         Queue {
             tickets: in_order(level.lines()),
@@ -55,6 +56,7 @@ impl Queue {
         let mut least = u64::MAX;
         for (i, ticket) in self.tickets.iter().enumerate() {
             if let Some(t) = *ticket {
+                // The least ticket may be the largest number itself.
                 if t <= least {
                     first = Some(i);
                     least = t;
